@@ -1,0 +1,5 @@
+pub mod Lists
+pub mod Texts
+pub mod Money
+pub mod Time
+pub mod Setup

@@ -1,0 +1,145 @@
+//! The grammars.
+ghost use Rattle.std.specs.Prelude.{◌≡◌};
+ghost use Rattle.std.specs.Str.{is_utf8};
+ghost use Rattle.upi_base.specs.Texts.{is_run, is_name, is_psp, is_bank, is_account, is_address, is_note, is_path};
+
+use crate::classes::{Alnum, Class, Name, Path, Plain, Psp, Upper, is_all, run};
+use crate::text::Rule;
+use std::str;
+
+fn is_run<C: Class>(text: &[u8]) -> bool
+    ensures { result ≡ is_run C.has text.now }
+{
+    !text.is_empty() && is_all::<C>(text)
+}
+
+#[tactic(auto, using(crate::proofs::Utf8::utf8_yes, crate::proofs::Utf8::utf8_no))]
+fn is_utf8(text: &[u8]) -> bool
+    ensures { result ≡ is_utf8 text.now }
+{
+    match str::from_utf8(text) {
+        Ok(_) => true,
+        Err(_) => false,
+    }
+}
+
+#[tactic(auto, unfolding(crate::specs::Texts::is_psp))]
+fn is_psp(text: &[u8]) -> bool
+    ensures { result ≡ is_psp text.now }
+{
+    is_run::<Psp>(text) && text[0].is_ascii_lowercase()
+}
+
+/// Of names of transactions.
+#[derive(Clone, Copy)]
+pub struct TxnRule;
+
+impl Rule for TxnRule {
+    ghost allows = { is_name };
+
+    fn allows(text: &[u8]) -> bool {
+        is_run::<Name>(text)
+    }
+}
+
+/// Of names of messages.
+#[derive(Clone, Copy)]
+pub struct MessageRule;
+
+impl Rule for MessageRule {
+    ghost allows = { is_name };
+
+    fn allows(text: &[u8]) -> bool {
+        is_run::<Name>(text)
+    }
+}
+
+/// Of names of members.
+#[derive(Clone, Copy)]
+pub struct OrgRule;
+
+impl Rule for OrgRule {
+    ghost allows = { is_name };
+
+    fn allows(text: &[u8]) -> bool {
+        is_run::<Name>(text)
+    }
+}
+
+/// Of names of PSPs.
+#[derive(Clone, Copy)]
+pub struct PspRule;
+
+impl Rule for PspRule {
+    ghost allows = { is_psp };
+
+    fn allows(text: &[u8]) -> bool {
+        is_psp(text)
+    }
+}
+
+/// Of codes of banks.
+#[derive(Clone, Copy)]
+pub struct BankRule;
+
+impl Rule for BankRule {
+    ghost allows = { is_bank };
+
+    fn allows(text: &[u8]) -> bool {
+        text.len() == 4 && is_all::<Upper>(text)
+    }
+}
+
+/// Of numbers of accounts.
+#[derive(Clone, Copy)]
+pub struct AccountRule;
+
+impl Rule for AccountRule {
+    ghost allows = { is_account };
+
+    fn allows(text: &[u8]) -> bool {
+        is_run::<Alnum>(text)
+    }
+}
+
+/// Of addresses.
+#[derive(Clone, Copy)]
+pub struct AddressRule;
+
+impl Rule for AddressRule {
+    ghost allows = { is_address };
+
+    fn allows(text: &[u8]) -> bool {
+        let count = run::<Name>(text);
+        count >= 1
+            && count <= 50
+            && count < text.len()
+            && text[count] == b'@'
+            && text.len() - count <= 21
+            && is_psp(&text[count + 1..])
+    }
+}
+
+/// Of notes.
+#[derive(Clone, Copy)]
+pub struct NoteRule;
+
+impl Rule for NoteRule {
+    ghost allows = { is_note };
+
+    fn allows(text: &[u8]) -> bool {
+        is_run::<Plain>(text) && is_utf8(text)
+    }
+}
+
+/// Of paths.
+#[derive(Clone, Copy)]
+pub struct PathRule;
+
+impl Rule for PathRule {
+    ghost allows = { is_path };
+
+    fn allows(text: &[u8]) -> bool {
+        is_run::<Path>(text) || (text.len() == 1 && text[0] == b'-')
+    }
+}

@@ -1,0 +1,156 @@
+//! The setup: banks, PSPs, accounts and addresses.
+ghost use Rattle.std.specs.Prelude.{◌≡◌, IfOk};
+
+use crate::code::Policy;
+use crate::fault::NoMemory;
+use crate::moment::Moment;
+use crate::paise::Paise;
+use crate::{AcNum, Addr, BankCode, PspName};
+use std::alloc::Global;
+use std::marker::Model;
+
+/// An account: its bank and its number there. Written `AAAA/1`.
+#[derive(Clone, Drop, PartialEq, Eq, PartialOrd, Ord, Hash)]
+pub struct AccountRef {
+    pub bank: BankCode,
+    pub num: AcNum,
+}
+
+impl AccountRef {
+    /// The same account.
+    pub fn copy(&self) -> AccountRef
+        ensures { result ≡ self.now }
+    {
+        AccountRef {
+            bank: self.bank.copy(),
+            num: self.num.copy(),
+        }
+    }
+}
+
+/// A line of a setup.
+#[derive(Clone, Drop, PartialEq, Eq)]
+pub enum SetupLine {
+    Bank(BankCode),
+    Psp(PspName),
+    Account {
+        ac: AccountRef,
+        opening: Paise,
+        no_debit: bool,
+        no_credit: bool,
+    },
+    Address {
+        addr: Addr,
+        ac: AccountRef,
+        policy: Policy,
+    },
+}
+
+impl SetupLine {
+    /// The same line.
+    pub fn copy(&self) -> SetupLine
+        ensures { result ≡ self.now }
+    {
+        match self {
+            SetupLine::Bank(code) => SetupLine::Bank(code.copy()),
+            SetupLine::Psp(name) => SetupLine::Psp(name.copy()),
+            SetupLine::Account {
+                ac,
+                opening,
+                no_debit,
+                no_credit,
+            } => SetupLine::Account {
+                ac: ac.copy(),
+                opening: *opening,
+                no_debit: *no_debit,
+                no_credit: *no_credit,
+            },
+            SetupLine::Address { addr, ac, policy } => SetupLine::Address {
+                addr: addr.copy(),
+                ac: ac.copy(),
+                policy: *policy,
+            },
+        }
+    }
+}
+
+/// An account as a setup gives it: what it opens with, and which postings it takes.
+#[derive(Clone, Drop, PartialEq, Eq)]
+pub struct Account {
+    pub ac: AccountRef,
+    pub opening: Paise,
+    pub no_debit: bool,
+    pub no_credit: bool,
+}
+
+/// What a setup gives for an address: its account, and how its model PSP answers.
+#[derive(Clone, Drop, PartialEq, Eq)]
+pub struct Listing {
+    pub ac: AccountRef,
+    pub policy: Policy,
+}
+
+/// The lines of a setup, in order.
+#[derive(Drop)]
+pub struct SetupLines {
+    items: Vec<SetupLine>,
+}
+
+impl Model for SetupLines {
+    ghost use Rattle.std.specs.Prelude.{List};
+    ghost use Rattle.upi_base.specs.declared.setup.SetupLine.{SetupLine};
+
+    ghost Value = { List SetupLine };
+
+    ghost view = { λ s. s.items.items };
+}
+
+impl SetupLines {
+    ghost use Rattle.std.specs.Prelude.{◌≡◌, ◌++◌, ◌∷◌, [], OnOk, OnErr};
+
+    /// No lines.
+    pub fn new(alloc: Global) -> SetupLines
+        ensures { result ≡ [] }
+    {
+        SetupLines {
+            items: Vec::new(alloc),
+        }
+    }
+
+    /// These lines.
+    pub fn of(items: Vec<SetupLine>) -> SetupLines
+        ensures { result ≡ items.items }
+    {
+        SetupLines { items }
+    }
+
+    /// The lines as a slice.
+    pub fn items(&self) -> &[SetupLine]
+        ensures { result.now ≡ self.now }
+    {
+        &self.items
+    }
+
+    /// The lines as a vector.
+    pub fn into_items(self) -> Vec<SetupLine>
+        ensures { result.items ≡ self }
+    {
+        self.items
+    }
+
+    /// Adds a line at the end. A refusal changes nothing.
+    pub fn push(&mut self, line: SetupLine) -> Result<(), NoMemory>
+        ensures ok { OnOk result (self.new ≡ self.old ++ line ∷ []) }
+        ensures err { OnErr result (self.new ≡ self.old) }
+    {
+        self.items.push(line)?;
+        Ok(())
+    }
+}
+
+/// A setup: the moment at which it starts, and its lines.
+#[derive(Drop)]
+pub struct Setup {
+    pub start: Moment,
+    pub lines: SetupLines,
+}
