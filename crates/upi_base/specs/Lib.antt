@@ -3,3 +3,4 @@ pub mod Texts
 pub mod Money
 pub mod Time
 pub mod Setup
+pub mod Shards

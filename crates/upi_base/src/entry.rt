@@ -9,7 +9,7 @@ use crate::sent::SentList;
 use crate::{PspName, TxnId};
 
 /// A call on the switch. Sent messages are numbered from 1 in the order of the history.
-#[derive(Clone, Drop, PartialEq, Eq)]
+#[derive(Drop, PartialEq)]
 pub enum Call {
     /// A PSP sends something.
     Hear { psp: PspName, input: Input },

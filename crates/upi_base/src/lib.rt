@@ -4,6 +4,7 @@
 //! or a number of minutes as a number.
 #![tactic(auto)]
 
+pub mod boxed;
 mod classes;
 pub mod code;
 pub mod directory;
@@ -15,9 +16,11 @@ pub mod moment;
 pub mod paise;
 pub mod rules;
 pub mod sent;
+pub mod settled;
 pub mod setup;
 pub mod text;
 
+pub use boxed::Boxed;
 pub use code::{Answer, Code, Kind, Leg, Outcome, Policy, Reply};
 pub use directory::{
     account_at, account_named, has_bank, has_psp, listing_at, provider, setup_fault,
@@ -32,6 +35,7 @@ pub use rules::{
     AccountRule, AddressRule, BankRule, MessageRule, NoteRule, OrgRule, PathRule, PspRule, TxnRule,
 };
 pub use sent::{AuthQuestion, Body, Party, Sent, SentList};
+pub use settled::{AuditWhy, Item, Position, Recon, Side, TxnRow, Verdict};
 pub use setup::{Account, AccountRef, Listing, Setup, SetupLine, SetupLines};
 pub use text::{Rule, Text};
 

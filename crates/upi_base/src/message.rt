@@ -1,6 +1,7 @@
 //! The messages that a PSP sends, as they were read.
 ghost use Rattle.std.specs.Prelude.{◌≡◌, IfOk};
 
+use crate::boxed::Boxed;
 use crate::code::Kind;
 use crate::fault::NoMemory;
 use crate::minutes::Minutes;
@@ -70,12 +71,12 @@ pub enum Api {
 }
 
 /// A message that was read.
-#[derive(Clone, Drop, PartialEq, Eq)]
+#[derive(Drop, PartialEq)]
 pub enum Message {
-    Pay(Box<PayReq>),
-    AuthAnswer(Box<AuthResp>),
+    Pay(Boxed<PayReq>),
+    AuthAnswer(Boxed<AuthResp>),
     Check(Chk),
-    Confirmed(Box<ConfResp>),
+    Confirmed(Boxed<ConfResp>),
     Foreign { api: Api, head: Head },
 }
 
@@ -99,7 +100,7 @@ pub struct BadMessage {
 }
 
 /// What a PSP sends: a message, or something that can't be read as one.
-#[derive(Clone, Drop, PartialEq, Eq)]
+#[derive(Drop, PartialEq)]
 pub enum Input {
     Good(Message),
     Bad(BadMessage),

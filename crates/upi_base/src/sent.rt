@@ -1,6 +1,7 @@
 //! The messages that are sent.
 ghost use Rattle.std.specs.Prelude.{◌≡◌, IfOk};
 
+use crate::boxed::Boxed;
 use crate::code::{Answer, Kind, Leg, Outcome};
 use crate::fault::NoMemory;
 use crate::paise::Paise;
@@ -29,10 +30,10 @@ pub struct AuthQuestion {
 }
 
 /// What a message says.
-#[derive(Clone, Drop, PartialEq, Eq)]
+#[derive(Drop, PartialEq)]
 pub enum Body {
     /// REQAUTH: to the asked PSP.
-    ReqAuth(Box<AuthQuestion>),
+    ReqAuth(Boxed<AuthQuestion>),
     /// RESPAUTH: a model PSP's yes or no.
     RespAuth {
         txn: TxnId,
@@ -73,7 +74,7 @@ pub enum Body {
 }
 
 /// A message that is sent.
-#[derive(Clone, Drop, PartialEq, Eq)]
+#[derive(Drop, PartialEq)]
 pub struct Sent {
     pub from: Party,
     pub to: Party,
