@@ -1,0 +1,102 @@
+-- When a transaction is due.
+use Rattle.std.specs.Prelude.{ℕ, ◌+◌, nat_lt, nat_le, Bool, false, ◌&&◌, if◌then◌else◌, List, Option, Some, None, is_none}
+use Rattle.std.specs.Option.{option_map}
+use Rattle.std.specs.List.{list_any, count_by}
+use Rattle.std.specs.Str.{bytes_eq}
+use Rattle.upi_base.specs.declared.entry.Entry.{Entry}
+use Rattle.upi_base.specs.declared.sent.Sent.{Sent}
+use Rattle.upi_base.specs.declared.sent.Body.{Body}
+use Rattle.upi_base.specs.declared.sent.Body.TheVariants as body
+use Rattle.upi_base.specs.declared.code.Leg.{Leg}
+use Rattle.upi_base.specs.declared.code.Leg.TheVariants as leg
+use Rattle.upi_base.specs.declared.code.Code.{Code}
+use Rattle.upi_base.specs.declared.code.Outcome.{Outcome}
+use Rattle.upi_base.specs.declared.setup.SetupLine.{SetupLine}
+use Rattle.upi_base.specs.Lists.{when}
+use Rattle.upi_laws.specs.declared.event.Said.{Said}
+use Rattle.upi_laws.specs.declared.event.Said.TheVariants as said
+use Rattle.upi_laws.specs.declared.event.Event.{Event}
+use Rattle.upi_laws.specs.declared.event.Event.TheVariants as event
+use Rattle.upi_laws.specs.declared.places.Opening.{Opening}
+use Rattle.upi_laws.specs.declared.places.Decision.{Decision}
+use Rattle.upi_laws.specs.declared.places.LegEnd.{LegEnd}
+use Rattle.upi_laws.specs.History.{first, last, sent, is_closed}
+use Rattle.upi_laws.specs.Places.{same_leg, asked, opening, decision, debit, credit, cause_by, due_answer, due_debit, due_credit}
+use Rattle.upi_laws.specs.Outcomes.{outcome_of}
+
+-- an order of the transaction for the leg
+abbrev pub orders : List ℕ → Leg → Sent → Bool
+orders t l s = orders_in t l s.body
+  where
+    orders_in : List ℕ → Leg → Body → Bool
+    orders_in t l (body.Order t' l' amount ac addr) = bytes_eq t' t && same_leg l' l
+    orders_in t l _ = false
+
+-- a confirmation of the transaction
+abbrev pub confirms : List ℕ → Sent → Bool
+confirms t s = confirms_in t s.body
+  where
+    confirms_in : List ℕ → Body → Bool
+    confirms_in t (body.Confirm t' kind outcome) = bytes_eq t' t
+    confirms_in t _ = false
+
+abbrev pub sends : (Sent → Bool) → Entry → Option ℕ
+sends fits e = when (list_any fits e.sent) e.at
+
+-- the moment of the last entry that sent such a message
+abbrev pub last_sent : (Sent → Bool) → List Entry → Option ℕ
+last_sent fits h = last (sends fits) h
+
+-- the asked PSP says that it was confirmed
+abbrev pub acknowledges_said : Opening → List ℕ → Said → Bool
+acknowledges_said o p (said.Confirmed t) = bytes_eq t o.terms.txn && bytes_eq p (asked o.terms)
+acknowledges_said o p _ = false
+
+abbrev pub acknowledges_on : Opening → Event → Bool
+acknowledges_on o (event.Heard p what) = acknowledges_said o p what
+acknowledges_on o _ = false
+
+abbrev pub acknowledges : Option Opening → Option Outcome → Event → ℕ → Option ℕ
+acknowledges None x e now = None
+acknowledges (Some o) None e now = None
+acknowledges (Some o) (Some x) e now = when (acknowledges_on o e) now
+
+-- when the asked PSP acknowledged the outcome
+abbrev pub acknowledged : List SetupLine → List ℕ → List Entry → Option ℕ
+acknowledged S t h = first (λ before e now. acknowledges (opening S t before) (outcome_of S t before) e now) h
+
+abbrev pub thirty_after : Option ℕ → Option ℕ
+thirty_after at = option_map (λ (k : ℕ). k + 30) at
+
+-- a confirmation is sent again 30 seconds after the last, as long as fewer than four were sent and none was acknowledged
+abbrev pub due_confirm : ℕ → Option ℕ → Option ℕ → Option ℕ
+due_confirm count last acknowledged = if nat_lt count 4 && is_none acknowledged then thirty_after last else None
+
+-- after the answer: the debit, the credit, or the reversal that is awaited
+abbrev pub due_leg : Option Decision → Option LegEnd → Option Code → Option ℕ → Option ℕ
+due_leg a d (Some why) returned = thirty_after returned
+due_leg a None None returned = due_debit a
+due_leg a (Some d) None returned = due_credit (Some d)
+
+abbrev pub due_open : Opening → Option Decision → Option LegEnd → Option Code → Option ℕ → Option ℕ
+due_open o None d why returned = Some (due_answer o)
+due_open o (Some a) d why returned = due_leg (Some a) d why returned
+
+abbrev pub due_by : Option Opening → Option Outcome → Option Decision → Option LegEnd → Option Code → Option ℕ → Option ℕ → Option ℕ
+due_by None x a d why returned confirmed = None
+due_by (Some o) (Some x) a d why returned confirmed = confirmed
+due_by (Some o) None a d why returned confirmed = due_open o a d why returned
+
+-- when the transaction is due, if it is
+abbrev pub due : List SetupLine → List ℕ → List Entry → Option ℕ
+due S t h =
+    if is_closed h then None
+    else due_by (opening S t h) (outcome_of S t h) (decision S t h) (debit S t h) (cause_by (debit S t h) (credit S t h)) (last_sent (orders t leg.Reversal) h)
+    (due_confirm (count_by (confirms t) (sent h)) (last_sent (confirms t) h) (acknowledged S t h))
+
+abbrev pub passed : ℕ → Option ℕ → Bool
+passed now None = false
+passed now (Some k) = nat_le k now
+
+abbrev pub is_due : List SetupLine → List ℕ → List Entry → ℕ → Bool
+is_due S t h now = passed now (due S t h)

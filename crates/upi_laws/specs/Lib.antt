@@ -1,0 +1,10 @@
+pub mod History
+pub mod Places
+pub mod Outcomes
+pub mod Postings
+pub mod Dues
+pub mod Replies
+pub mod Sending
+pub mod Legal
+pub mod Settlement
+pub mod Owners
