@@ -24,7 +24,7 @@ pub mod text;
 pub use boxed::Boxed;
 pub use code::{Answer, Code, Kind, Leg, Outcome, Policy, Reply};
 pub use directory::{
-    account_at, account_named, has_bank, has_psp, listing_at, provider, setup_fault,
+    account_at, account_named, has_bank, has_psp, listing_at, provider, same_account, setup_fault,
 };
 pub use entry::{Call, Done, Entry};
 pub use fault::{NoMemory, Why};
