@@ -1,3 +1,4 @@
 pub mod Stays
 pub mod Facts
 pub mod Openings
+pub mod Steps
