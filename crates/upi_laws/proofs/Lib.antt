@@ -2,3 +2,5 @@ pub mod Stays
 pub mod Facts
 pub mod Openings
 pub mod Steps
+pub mod Closing
+pub mod Beginnings

@@ -122,7 +122,6 @@ passes S openings psp r e =
       most = n.1;
       room = below (count_by (in_shard (txn_shard r.txn)) openings) g.0;
     }
-
   where
     below : (n : ℕ) → nat_le 4096 n ≡ false → n < 4096
     below n e = grind (arith, nat_tests)

@@ -245,9 +245,10 @@ if_false true o e = absurd cc
 if_false false o e = refl
 
 pub closed_answers_stand : ClosedAnswersStand
-closed_answers_stand S e h shut =
-    (ap (joined (opened S h)) (shut_opens S (opened S h) (is_closed h) (event_of h e.call) e.at shut),
-    λ i t l. same t l i)
+closed_answers_stand S e h shut = (
+  ap (joined (opened S h)) (shut_opens S (opened S h) (is_closed h) (event_of h e.call) e.at shut),
+  λ i t l. same t l i,
+)
   where
     same : (t : List ℕ) (l : Leg) → answer S (e ∷ h) t l ≡ answer S h t l
     same t l = or_nothing (answer S h t l) _ (if_false (arrives t l (is_closed h) (reversal_due S t h) (event_of h e.call)) (post S (opened S h) (answer S h) t l) (not_shut (is_closed h) _ shut))

@@ -9,3 +9,4 @@ pub mod Legal
 pub mod Settlement
 pub mod Owners
 pub mod Laws
+pub mod Sound
