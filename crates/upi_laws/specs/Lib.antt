@@ -8,3 +8,4 @@ pub mod Sending
 pub mod Legal
 pub mod Settlement
 pub mod Owners
+pub mod Backed
