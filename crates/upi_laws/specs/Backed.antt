@@ -18,17 +18,24 @@ use Rattle.upi_base.specs.declared.code.Answer.{Answer}
 use Rattle.upi_base.specs.declared.code.Outcome.{Outcome}
 use Rattle.upi_base.specs.declared.code.Policy.{Policy}
 use Rattle.upi_base.specs.declared.code.Policy.TheVariants as policy
+use Rattle.upi_base.specs.declared.code.Reply.{Reply}
+use Rattle.upi_base.specs.declared.code.Reply.TheVariants as reply
 use Rattle.upi_base.specs.declared.setup.AccountRef.{AccountRef}
 use Rattle.upi_base.specs.declared.setup.Account.{Account}
 use Rattle.upi_base.specs.declared.setup.Listing.{Listing}
 use Rattle.upi_base.specs.declared.setup.SetupLine.{SetupLine}
+use Rattle.upi_base.specs.Lists.{when}
 use Rattle.upi_base.specs.Setup.{account_at, listing_at}
+use Rattle.upi_laws.specs.declared.event.Said.{Said}
+use Rattle.upi_laws.specs.declared.event.Said.TheVariants as said
+use Rattle.upi_laws.specs.declared.event.Event.{Event}
+use Rattle.upi_laws.specs.declared.event.Event.TheVariants as event
 use Rattle.upi_laws.specs.declared.places.Opening.{Opening}
 use Rattle.upi_laws.specs.declared.places.Decision.{Decision}
 use Rattle.upi_laws.specs.declared.places.Decision.TheVariants as decided
 use Rattle.upi_laws.specs.declared.places.LegEnd.{LegEnd}
 use Rattle.upi_laws.specs.declared.places.LegEnd.TheVariants as ended
-use Rattle.upi_laws.specs.History.{sent, message_at}
+use Rattle.upi_laws.specs.History.{sent, message_at, event_of}
 use Rattle.upi_laws.specs.Places.{side, asking, asked, opening, decision, debit, cause}
 use Rattle.upi_laws.specs.Outcomes.{outcome_of}
 use Rattle.upi_laws.specs.Postings.{posted_at, answer}
@@ -137,3 +144,34 @@ MessageBacked = (S : List SetupLine) (h : List Entry) (n : ℕ) (s : Sent) → L
 -- and each is backed by the history as it is when it is sent
 abbrev pub BackedWhenSent : Type 0
 BackedWhenSent = (S : List SetupLine) (later : List Entry) (e : Entry) (before : List Entry) → Legal S (later ++ e ∷ before) → AllBacked S (e ∷ before) e.sent
+
+-- which outcome a message tells of the transaction, if it tells one
+abbrev pub outcome_in : List ℕ → Body → Option Outcome
+outcome_in t (body.Result t' k x m) = when (bytes_eq t' t) x
+outcome_in t (body.Confirm t' k x) = when (bytes_eq t' t) x
+outcome_in t _ = None
+
+-- which status the reply to an event gives of the transaction, if it gives one
+abbrev pub status_in : List ℕ → Reply → Event → Option (Option Outcome)
+status_in t (reply.Status x) (event.Heard p (said.Check t')) = when (bytes_eq t' t) x
+status_in t _ _ = None
+
+-- a status is the reply to a check
+abbrev pub IsOfCheck : Reply → Event → Type 0
+IsOfCheck (reply.Status x) (event.Heard p (said.Check t)) = Unit {0}
+IsOfCheck (reply.Status x) _ = ⊥
+IsOfCheck _ _ = Unit {0}
+
+-- each message that tells an outcome of the transaction tells this one
+abbrev pub AllTell : List ℕ → Option Outcome → List Sent → Type 0
+AllTell t stands messages = AllByRecursion (λ (s : Sent). (x : Outcome) → outcome_in t s.body ≡ Some x → stands ≡ Some x) messages
+
+-- What an entry tells of the transaction's outcome: what then stands, be it an outcome or none. A check brings no outcome.
+pub record EntryTells (S : List SetupLine) (t : List ℕ) (before : List Entry) (e : Entry) : Type 0 where
+  pub checked : IsOfCheck e.reply (event_of before e.call)
+  pub stood : (x : Option Outcome) → status_in t e.reply (event_of before e.call) ≡ Some x → x ≡ outcome_of S t before
+  pub status : (x : Option Outcome) → status_in t e.reply (event_of before e.call) ≡ Some x → x ≡ outcome_of S t (e ∷ before)
+  pub messages : AllTell t (outcome_of S t (e ∷ before)) e.sent
+
+abbrev pub OutcomeTold : Type 0
+OutcomeTold = (S : List SetupLine) (t : List ℕ) (later : List Entry) (e : Entry) (before : List Entry) → Legal S (later ++ e ∷ before) → EntryTells S t before e

@@ -5,6 +5,7 @@
 #![tactic(auto)]
 
 pub mod event;
+pub mod laws_told;
 pub mod places;
 
 pub use event::{AuthWord, Event, Said};
