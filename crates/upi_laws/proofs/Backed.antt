@@ -21,6 +21,7 @@ use Rattle.upi_base.specs.declared.code.Kind.{Kind}
 use Rattle.upi_base.specs.declared.code.Leg.{Leg}
 use Rattle.upi_base.specs.declared.code.Leg.TheVariants as leg
 use Rattle.upi_base.specs.declared.code.Code.{Code}
+use Rattle.upi_base.specs.declared.code.Code.TheVariants as code
 use Rattle.upi_base.specs.declared.code.Answer.{Answer}
 use Rattle.upi_base.specs.declared.code.Outcome.{Outcome}
 use Rattle.upi_base.specs.declared.code.Policy.{Policy}
@@ -49,13 +50,18 @@ use Rattle.upi_laws.specs.Replies.{order_answer}
 use Rattle.upi_laws.specs.Sending.{question, order_at, order, confirm, outcome_messages, anew, sent_on_opening, sent_on_decision, sent_on_debit, sent_on_credit, sent_on_reversal, again, sent_again, sent_by_txn, sent_on_late, sent_on_event, bank_answer, model_word, model_answer_by, receiver_answer, answered_message, receiver_answers, sent_on_said, sent_on, sent_by}
 use Rattle.upi_laws.specs.Legal.{Legal}
 use Rattle.upi_laws.specs.Backed.{IsQuestion, word_of, word_at, IsModelAnswer, OrderPlaced, IsOrder, IsResult, IsConfirmation, IsConfirmed, BackedBy, Backed, AllBacked, MessagesBacked, MessageBacked, BackedWhenSent}
-use Rattle.upi_laws.proofs.Held.{opening_named, opening_held, pick_new, decision_held, debit_held, credit_held, answer_held, outcome_held}
+use Rattle.upi_laws.proofs.Stays.{some_same, some_is, opening_stays_one, decision_stays, debit_stays, answer_stays}
+use Rattle.upi_laws.proofs.Facts.{cause_stays, cause_late, outcome_stays}
+use Rattle.upi_laws.proofs.Openings.{opening_is_named, opens_found}
 
 -- ---- what stands behind a message stays
 
 some_held : {X : Type 0} (o p : Option X) → ((x : X) → o ≡ Some x → p ≡ Some x) → is_some o ≡ true → is_some p ≡ true
 some_held None p g h = absurd cc
 some_held (Some x) p g h = rw (g x refl) refl
+
+cause_held : (S : List SetupLine) (t : List ℕ) (e : Entry) (h : List Entry) → is_some (cause S t h) ≡ true → is_some (cause S t (e ∷ h)) ≡ true
+cause_held S t e h s = some_held (cause S t h) (cause S t (e ∷ h)) (cause_stays S t (e ∷ []) h) s
 
 declined_cause : (d c : Option LegEnd) (k : Code) → c ≡ Some (ended.Declined k) → is_some (cause_by d c) ≡ true
 declined_cause None c k e = rw e refl
@@ -64,60 +70,20 @@ declined_cause (Some (ended.Posted _)) c k e = rw e refl
 declined_cause (Some (ended.Declined _)) c k e = rw e refl
 declined_cause (Some ended.Close) c k e = rw e refl
 
-late_cause : (d c : Option LegEnd) → d ≡ Some ended.Late → is_some (cause_by d c) ≡ true
-late_cause d c e = rw e refl
-
-declined_held : (d d' c c' : Option LegEnd) → ((x : LegEnd) → c ≡ Some x → c' ≡ Some x) → is_some (cause_by None c) ≡ true → is_some (cause_by d' c') ≡ true
-declined_held d d' (Some (ended.Declined k)) c' g s = declined_cause d' c' k (g (ended.Declined k) refl)
-declined_held d d' None c' g s = absurd cc
-declined_held d d' (Some (ended.Posted _)) c' g s = absurd cc
-declined_held d d' (Some ended.Late) c' g s = absurd cc
-declined_held d d' (Some ended.Close) c' g s = absurd cc
-
--- but for a debit without an answer in time, only the credit counts
-only_credit : (d c : Option LegEnd) → d ≢ Some ended.Late → cause_by d c ≡ cause_by None c
-only_credit (Some ended.Late) c n = absurd (n refl)
-only_credit None c n = refl
-only_credit (Some (ended.Posted _)) None n = refl
-only_credit (Some (ended.Posted _)) (Some (ended.Declined _)) n = refl
-only_credit (Some (ended.Posted _)) (Some (ended.Posted _)) n = refl
-only_credit (Some (ended.Posted _)) (Some ended.Late) n = refl
-only_credit (Some (ended.Posted _)) (Some ended.Close) n = refl
-only_credit (Some (ended.Declined _)) None n = refl
-only_credit (Some (ended.Declined _)) (Some (ended.Declined _)) n = refl
-only_credit (Some (ended.Declined _)) (Some (ended.Posted _)) n = refl
-only_credit (Some (ended.Declined _)) (Some ended.Late) n = refl
-only_credit (Some (ended.Declined _)) (Some ended.Close) n = refl
-only_credit (Some ended.Close) None n = refl
-only_credit (Some ended.Close) (Some (ended.Declined _)) n = refl
-only_credit (Some ended.Close) (Some (ended.Posted _)) n = refl
-only_credit (Some ended.Close) (Some ended.Late) n = refl
-only_credit (Some ended.Close) (Some ended.Close) n = refl
-
-cause_grows : (d d' c c' : Option LegEnd) → ((x : LegEnd) → d ≡ Some x → d' ≡ Some x) → ((x : LegEnd) → c ≡ Some x → c' ≡ Some x) → is_some (cause_by d c) ≡ true → is_some (cause_by d' c') ≡ true
-cause_grows (Some ended.Late) d' c c' gd gc s = late_cause d' c' (gd ended.Late refl)
-cause_grows None d' c c' gd gc s = declined_held None d' c c' gc s
-cause_grows (Some (ended.Posted at)) d' c c' gd gc s = declined_held None d' c c' gc (subst (λ (x : Option Code). is_some x ≡ true) (only_credit (Some (ended.Posted at)) c (λ e. cc)) s)
-cause_grows (Some (ended.Declined k)) d' c c' gd gc s = declined_held None d' c c' gc (subst (λ (x : Option Code). is_some x ≡ true) (only_credit (Some (ended.Declined k)) c (λ e. cc)) s)
-cause_grows (Some ended.Close) d' c c' gd gc s = declined_held None d' c c' gc (subst (λ (x : Option Code). is_some x ≡ true) (only_credit (Some ended.Close) c (λ e. cc)) s)
-
-pub cause_held : (S : List SetupLine) (t : List ℕ) (e : Entry) (h : List Entry) → is_some (cause S t h) ≡ true → is_some (cause S t (e ∷ h)) ≡ true
-cause_held S t e h s = cause_grows (debit S t h) (debit S t (e ∷ h)) (credit S t h) (credit S t (e ∷ h)) (debit_held S t e h) (credit_held S t e h) s
-
 pub placed_held : (S : List SetupLine) (t : List ℕ) (l : Leg) (e : Entry) (h : List Entry) → OrderPlaced S h t l → OrderPlaced S (e ∷ h) t l
-placed_held S t leg.Debit e h p = (p.0, decision_held S t e h (decided.Yes p.0) p.1)
-placed_held S t leg.Credit e h p = (p.0, debit_held S t e h (ended.Posted p.0) p.1)
+placed_held S t leg.Debit e h p = (p.0, decision_stays S t (e ∷ []) h (decided.Yes p.0) p.1)
+placed_held S t leg.Credit e h p = (p.0, debit_stays S t (e ∷ []) h (ended.Posted p.0) p.1)
 placed_held S t leg.Reversal e h p = cause_held S t e h p
 
 by_held : (S : List SetupLine) (e : Entry) (h : List Entry) (from to : Party) (b : Body) → BackedBy S h from to b → BackedBy S (e ∷ h) from to b
-by_held S e h from to (body.ReqAuth q) k = record { o = k.o; begun = opening_held S q.txn e h k.o k.begun; sender = k.sender; receiver = k.receiver; its_kind = k.its_kind; its_payer = k.its_payer; its_payee = k.its_payee; its_amount = k.its_amount; its_note = k.its_note }
-by_held S e h from to (body.RespAuth t amount word) k = record { o = k.o; begun = opening_held S t e h k.o k.begun; sender = k.sender; receiver = k.receiver; its_amount = k.its_amount; its_word = k.its_word }
+by_held S e h from to (body.ReqAuth q) k = record { o = k.o; begun = opening_stays_one S q.txn e h k.o k.begun; sender = k.sender; receiver = k.receiver; its_kind = k.its_kind; its_payer = k.its_payer; its_payee = k.its_payee; its_amount = k.its_amount; its_note = k.its_note }
+by_held S e h from to (body.RespAuth t amount word) k = record { o = k.o; begun = opening_stays_one S t e h k.o k.begun; sender = k.sender; receiver = k.receiver; its_amount = k.its_amount; its_word = k.its_word }
 by_held S e h from to (body.Order t l amount ac addr) k =
-    record { o = k.o; begun = opening_held S t e h k.o k.begun; a = k.a; held = k.held; sender = k.sender; receiver = k.receiver; its_amount = k.its_amount; its_account = k.its_account; its_address = k.its_address; placed = placed_held S t l e h k.placed }
-by_held S e h from to (body.LegAnswer t l a) k = answer_held S t l e h a k
-by_held S e h from to (body.Result t kind x m) k = record { o = k.o; begun = opening_held S t e h k.o k.begun; sender = k.sender; receiver = k.receiver; its_kind = k.its_kind; its_request = k.its_request; told = outcome_held S t e h x k.told }
-by_held S e h from to (body.Confirm t kind x) k = record { o = k.o; begun = opening_held S t e h k.o k.begun; sender = k.sender; receiver = k.receiver; its_kind = k.its_kind; told = outcome_held S t e h x k.told }
-by_held S e h from to (body.Confirmed t) k = record { o = k.o; begun = opening_held S t e h k.o k.begun; sender = k.sender; receiver = k.receiver; told = some_held (outcome_of S t h) (outcome_of S t (e ∷ h)) (outcome_held S t e h) k.told }
+    record { o = k.o; begun = opening_stays_one S t e h k.o k.begun; a = k.a; held = k.held; sender = k.sender; receiver = k.receiver; its_amount = k.its_amount; its_account = k.its_account; its_address = k.its_address; placed = placed_held S t l e h k.placed }
+by_held S e h from to (body.LegAnswer t l a) k = answer_stays S t l (e ∷ []) h a k
+by_held S e h from to (body.Result t kind x m) k = record { o = k.o; begun = opening_stays_one S t e h k.o k.begun; sender = k.sender; receiver = k.receiver; its_kind = k.its_kind; its_request = k.its_request; told = outcome_stays S t (e ∷ []) h x k.told }
+by_held S e h from to (body.Confirm t kind x) k = record { o = k.o; begun = opening_stays_one S t e h k.o k.begun; sender = k.sender; receiver = k.receiver; its_kind = k.its_kind; told = outcome_stays S t (e ∷ []) h x k.told }
+by_held S e h from to (body.Confirmed t) k = record { o = k.o; begun = opening_stays_one S t e h k.o k.begun; sender = k.sender; receiver = k.receiver; told = some_held (outcome_of S t h) (outcome_of S t (e ∷ h)) (outcome_stays S t (e ∷ []) h) k.told }
 
 pub backed_held : (S : List SetupLine) (e : Entry) (h : List Entry) (s : Sent) → Backed S h s → Backed S (e ∷ h) s
 backed_held S e h s k = by_held S e h s.from s.to s.body k
@@ -128,12 +94,9 @@ all_held S e h (x ∷ xs) k = (backed_held S e h x k.0, all_held S e h xs k.1)
 
 -- ---- one message of many
 
-same_sent : (x s : Sent) → Some x ≡ Some s → x ≡ s
-same_sent x s e = cc
-
 all_at : (S : List SetupLine) (h : List Entry) (xs : List Sent) (k : ℕ) (s : Sent) → AllBacked S h xs → slice_get xs k ≡ Some s → Backed S h s
 all_at S h [] k s b e = absurd cc
-all_at S h (x ∷ xs) zero s b e = subst (λ (y : Sent). Backed S h y) (same_sent x s e) b.0
+all_at S h (x ∷ xs) zero s b e = subst (λ (y : Sent). Backed S h y) (some_same x s e) b.0
 all_at S h (x ∷ xs) (suc k) s b e = all_at S h xs k s b.1 e
 
 numbered_backed : (S : List SetupLine) (h : List Entry) (n : ℕ) (s : Sent) → AllBacked S h (sent h) → message_at h n ≡ Some s → Backed S h s
@@ -152,16 +115,6 @@ all_append S h (x ∷ xs) ys p q = (p.0, all_append S h xs ys p.1 q)
 opening_backed : (S : List SetupLine) (h : List Entry) (o : Option Opening) → ((x : Opening) → o ≡ Some x → opening S x.terms.txn h ≡ Some x) → AllBacked S h (sent_on_opening o)
 opening_backed S h None f = tt
 opening_backed S h (Some o) f = (record { o = o; begun = f o refl; sender = refl; receiver = refl; its_kind = refl; its_payer = refl; its_payee = refl; its_amount = refl; its_note = refl }, tt)
-
--- a payment that opens is the opening of its name
-opens_found : (S : List SetupLine) (h : List Entry) (e : Entry) (p : List ℕ) (r : PayReq) (o : Opening) → is_closed h ≡ false → event_of h e.call ≡ event.Heard p (said.Pay r)
-    → opens_said S (opened S h) e.at p (said.Pay r) ≡ Some o → opening S o.terms.txn (e ∷ h) ≡ Some o
-opens_found S h e p r o run is opens =
-    let fit = cond_some (not (list_any (has_id r.txn) (opened S h)) && is_none (refusal S (opened S h) p r)) (record { terms = r; at = e.at }) o opens in
-    let fresh : list_any (has_id r.txn) (opened S h) ≡ false = not-true _ (and_parts (not (list_any (has_id r.txn) (opened S h))) (is_none (refusal S (opened S h) p r)) fit.0).0 in
-    let terms : r ≡ o.terms = ap (λ (x : Opening). x.terms) fit.1 in
-    let more : opened S (e ∷ h) ≡ opened S h ++ o ∷ [] = (λ i. joined (opened S h) (cond (run i) None (opens_on S (opened S h) (is i) e.at))) ∙ ap (joined (opened S h)) opens in
-    ap (pick (if_of o.terms.txn)) more ∙ pick_new o.terms.txn (opened S h) o (ap (λ (x : PayReq). list_any (has_id x.txn) (opened S h)) (sym terms) ∙ fresh) refl
 
 order_backed : (S : List SetupLine) (h : List Entry) (o : Opening) (l : Leg) → opening S o.terms.txn h ≡ Some o → OrderPlaced S h o.terms.txn l → AllBacked S h (order S o.terms l)
 order_backed S h o l begun placed = go (account_at S (posted_at l o.terms)) refl
@@ -202,7 +155,7 @@ debit_backed : (S : List SetupLine) (h : List Entry) (o : Opening) (x : Option O
 debit_backed S h o x None b e f = tt
 debit_backed S h o x (Some (ended.Posted at)) b e f = order_backed S h o leg.Credit b (at, f (ended.Posted at) refl)
 debit_backed S h o x (Some (ended.Declined c)) b e f = outcome_backed S h o x b e
-debit_backed S h o x (Some ended.Late) b e f = order_backed S h o leg.Reversal b (late_cause (debit S o.terms.txn h) (credit S o.terms.txn h) (f ended.Late refl))
+debit_backed S h o x (Some ended.Late) b e f = order_backed S h o leg.Reversal b (some_is (cause S o.terms.txn h) code.DebitLate (cause_late (debit S o.terms.txn h) (credit S o.terms.txn h) (f ended.Late refl)))
 debit_backed S h o x (Some ended.Close) b e f = tt
 
 credit_backed : (S : List SetupLine) (h : List Entry) (o : Opening) (x : Option Outcome) (d : Option LegEnd) → opening S o.terms.txn h ≡ Some o → Is S h o.terms x → Found d (credit S o.terms.txn h) → AllBacked S h (sent_on_credit S o.terms x d)
@@ -227,7 +180,7 @@ txn_backed S h e o begun =
     let cr = ends t leg.Credit (is_closed h) (due_credit (debit S t h)) v e.at in
     let back = reverses t (is_closed h) (cause S t h) v e.at in
     let x = outcome_by (opening S t h) (option_or (decision S t h) a) (option_or (debit S t h) d) (option_or (credit S t h) cr) (is_some (option_or (reversal S t h) back)) in
-    let b : opening S t k ≡ Some o = opening_held S t e h o begun in
+    let b : opening S t k ≡ Some o = opening_stays_one S t e h o begun in
     let is : Is S k o.terms x = λ y w. ap (λ (z : Option Opening). outcome_by z (decision S t k) (debit S t k) (credit S t k) (is_some (reversal S t k))) (b ∙ sym begun) ∙ w in
     all_append S k (sent_on_decision S o.terms x (anew (decision S t h) a) ++ sent_on_debit S o.terms x (anew (debit S t h) d) ++ sent_on_credit S o.terms x (anew (credit S t h) cr)) (sent_on_reversal o.terms x (anew (reversal S t h) back))
     (all_append S k (sent_on_decision S o.terms x (anew (decision S t h) a) ++ sent_on_debit S o.terms x (anew (debit S t h) d)) (sent_on_credit S o.terms x (anew (credit S t h) cr))
@@ -249,7 +202,7 @@ sent_again_backed S h o x why false a = tt
 event_backed : (S : List SetupLine) (h : List Entry) (e : Entry) (v : Event) (t : List ℕ) (o : Option Opening) → event_of h e.call ≡ v → opening S t h ≡ o → AllBacked S (e ∷ h) (sent_on_event S h v e.at o)
 event_backed S h e v t None is begun = tt
 event_backed S h e v t (Some o) is begun =
-    let named : o.terms.txn ≡ t = opening_named t (opened S h) o begun in
+    let named : o.terms.txn ≡ t = opening_is_named S t h o begun in
     subst (λ (v : Event). AllBacked S (e ∷ h) (sent_by_txn S h o v e.at)) is (txn_backed S h e o (ap (λ (t : List ℕ). opening S t h) named ∙ begun))
 
 late_backed : (S : List SetupLine) (h : List Entry) (e : Entry) (t : List ℕ) (o : Option Opening) → event_of h e.call ≡ event.Late t → opening S t h ≡ o → AllBacked S (e ∷ h) (sent_on_late S h e.at o)
@@ -257,15 +210,15 @@ late_backed S h e t None is begun = tt
 late_backed S h e t (Some o) is begun =
     let k = e ∷ h in
     let u = o.terms.txn in
-    let named : u ≡ t = opening_named t (opened S h) o begun in
+    let named : u ≡ t = opening_is_named S t h o begun in
     let here : opening S u h ≡ Some o = ap (λ (t : List ℕ). opening S t h) named ∙ begun in
     all_append S k (sent_by_txn S h o (event.Late u) e.at) (sent_again S o.terms (outcome_of S u h) (cause S u h) (is_due S u h e.at))
     (subst (λ (v : Event). AllBacked S k (sent_by_txn S h o v e.at)) (is ∙ ap event.Late (sym named)) (txn_backed S h e o here))
     (sent_again_backed S k o (outcome_of S u h) (cause S u h) (is_due S u h e.at)
-    (again_backed S k o (outcome_of S u h) (cause S u h) (opening_held S u e h o here) (λ y w. outcome_held S u e h y w) (λ s. cause_held S u e h s)))
+    (again_backed S k o (outcome_of S u h) (cause S u h) (opening_stays_one S u e h o here) (λ y w. outcome_stays S u (e ∷ []) h y w) (λ s. cause_held S u e h s)))
 
 said_backed : (S : List SetupLine) (h : List Entry) (e : Entry) (p : List ℕ) (what : Said) → is_closed h ≡ false → event_of h e.call ≡ event.Heard p what → AllBacked S (e ∷ h) (sent_on_said S h p what e.at)
-said_backed S h e p (said.Pay r) run is = opening_backed S (e ∷ h) (opens_said S (opened S h) e.at p (said.Pay r)) (λ o opens. opens_found S h e p r o run is opens)
+said_backed S h e p (said.Pay r) run is = opening_backed S (e ∷ h) (opens_said S (opened S h) e.at p (said.Pay r)) (λ o opens. (opens_found S e h o ((λ i. cond (run i) None (opens_on S (opened S h) (is i) e.at)) ∙ opens)).1)
 said_backed S h e p (said.Auth a) run is = event_backed S h e (event.Heard p (said.Auth a)) a.txn (opening S a.txn h) is refl
 said_backed S h e p (said.Check t) run is = tt
 said_backed S h e p (said.Confirmed t) run is = tt
@@ -311,9 +264,6 @@ word_backed S h from to q k l policy.Ask is given = tt
 model_backed : (S : List SetupLine) (h : List Entry) (from to : Party) (q : AuthQuestion) (k : IsQuestion S h from to q) (l : Option Listing) → listing_at S (side q.kind q.payee q.payer) ≡ l → AllBacked S h (model_answer_by to q l)
 model_backed S h from to q k None is = tt
 model_backed S h from to q k (Some l) is = word_backed S h from to q k l l.policy is refl
-
-some_is : {X : Type 0} (o : Option X) (x : X) → o ≡ Some x → is_some o ≡ true
-some_is o x e = rw e refl
 
 receiver_backed : (S : List SetupLine) (h : List Entry) (e : Entry) (from to : Party) (b : Body) → is_closed h ≡ false → event_of h e.call ≡ delivered from b → BackedBy S (e ∷ h) from to b → AllBacked S (e ∷ h) (receiver_answer S h to b)
 receiver_backed S h e from to (body.ReqAuth q) run is k = model_backed S (e ∷ h) from to q k (listing_at S (side q.kind q.payee q.payer)) refl

@@ -1,3 +1,5 @@
-pub mod Held
+pub mod Stays
+pub mod Facts
+pub mod Openings
 pub mod Backed
 pub mod Told

@@ -42,6 +42,7 @@ use Rattle.upi_laws.specs.Dues.{is_due}
 use Rattle.upi_laws.specs.Replies.{ok, no, repeats, reply_pay, reply_decided, reply_auth, reply_check, reply_confirmed, reply_heard, late_answer, reply_answered, order_answer, reply_order, reply_late, reply_on, reply_closed_said, reply_closed_on, reply_closed, reply_to}
 use Rattle.upi_laws.specs.Legal.{Legal}
 use Rattle.upi_laws.specs.Backed.{BackedBy, Backed, AllBacked, outcome_in, status_in, IsOfCheck, AllTell, EntryTells, OutcomeTold}
+use Rattle.upi_laws.proofs.Stays.{or_nothing}
 use Rattle.upi_laws.proofs.Backed.{legal_before, backed_when_sent}
 
 -- ---- replies
@@ -158,10 +159,6 @@ reply_tells : (S : List SetupLine) (h : List Entry) (c : Call) (now : ℕ) → S
 reply_tells S h c now = either_tells S h (is_closed h) (reply_closed S h c) (reply_on S h (event_of h c) now) (event_of h c) (closed_tells S h c) (on_tells S h (event_of h c) now)
 
 -- ---- a check decides nothing
-
-or_nothing : {X : Type 0} (o p : Option X) → p ≡ None → option_or o p ≡ o
-or_nothing None p e = e
-or_nothing (Some x) p e = refl
 
 cond_nothing : {X : Type 0} (b : Bool) (p : Option X) → p ≡ None → cond b None p ≡ None
 cond_nothing true p e = refl

@@ -8,4 +8,5 @@ pub mod Sending
 pub mod Legal
 pub mod Settlement
 pub mod Owners
+pub mod Laws
 pub mod Backed

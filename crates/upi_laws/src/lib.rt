@@ -5,6 +5,7 @@
 #![tactic(auto)]
 
 pub mod event;
+pub mod laws;
 pub mod laws_told;
 pub mod places;
 
