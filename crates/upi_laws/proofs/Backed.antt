@@ -170,25 +170,34 @@ reversal_backed S h o x None b e = tt
 reversal_backed S h o x (Some at) b e = outcome_backed S h o x b e
 
 -- the places that an event brings, of an opened transaction
-txn_backed : (S : List SetupLine) (h : List Entry) (e : Entry) (o : Opening) → opening S o.terms.txn h ≡ Some o → AllBacked S (e ∷ h) (sent_by_txn S h o (event_of h e.call) e.at)
-txn_backed S h e o begun =
+txn_backed : (S : List SetupLine) (h : List Entry) (e : Entry) (o : Opening) → is_closed h ≡ false → opening S o.terms.txn h ≡ Some o → AllBacked S (e ∷ h) (sent_by_txn S h o (event_of h e.call) e.at)
+txn_backed S h e o run begun =
     let k = e ∷ h in
     let v = event_of h e.call in
     let t = o.terms.txn in
-    let a = decides S (is_closed h) (opening S t h) v e.at in
-    let d = ends t leg.Debit (is_closed h) (due_debit (decision S t h)) v e.at in
-    let cr = ends t leg.Credit (is_closed h) (due_credit (debit S t h)) v e.at in
-    let back = reverses t (is_closed h) (cause S t h) v e.at in
-    let x = outcome_by (opening S t h) (option_or (decision S t h) a) (option_or (debit S t h) d) (option_or (credit S t h) cr) (is_some (option_or (reversal S t h) back)) in
-    let b : opening S t k ≡ Some o = opening_stays_one S t e h o begun in
-    let is : Is S k o.terms x = λ y w. ap (λ (z : Option Opening). outcome_by z (decision S t k) (debit S t k) (credit S t k) (is_some (reversal S t k))) (b ∙ sym begun) ∙ w in
-    all_append S k (sent_on_decision S o.terms x (anew (decision S t h) a) ++ sent_on_debit S o.terms x (anew (debit S t h) d) ++ sent_on_credit S o.terms x (anew (credit S t h) cr)) (sent_on_reversal o.terms x (anew (reversal S t h) back))
-    (all_append S k (sent_on_decision S o.terms x (anew (decision S t h) a) ++ sent_on_debit S o.terms x (anew (debit S t h) d)) (sent_on_credit S o.terms x (anew (credit S t h) cr))
-    (all_append S k (sent_on_decision S o.terms x (anew (decision S t h) a)) (sent_on_debit S o.terms x (anew (debit S t h) d))
-    (decision_backed S k o x (anew (decision S t h) a) b is (anew_found (decision S t h) a))
-    (debit_backed S k o x (anew (debit S t h) d) b is (anew_found (debit S t h) d)))
-    (credit_backed S k o x (anew (credit S t h) cr) b is (anew_found (credit S t h) cr)))
-    (reversal_backed S k o x (anew (reversal S t h) back) b is)
+    let a = decision S t h in
+    let d = debit S t h in
+    let c = credit S t h in
+    let back = reversal S t h in
+    let a' = decides S false (Some o) v e.at in
+    let d' = ends t leg.Debit false (due_debit a) v e.at in
+    let c' = ends t leg.Credit false (due_credit d) v e.at in
+    let back' = reverses t false (cause_by d c) v e.at in
+    let x = outcome_by (Some o) (option_or a a') (option_or d d') (option_or c c') (is_some (option_or back back')) in
+    let same_o : opening S t k ≡ Some o = opening_stays_one S t e h o begun in
+    let same_a : decision S t k ≡ option_or a a' = λ i. option_or a (decides S (run i) (begun i) v e.at) in
+    let same_d : debit S t k ≡ option_or d d' = λ i. option_or d (ends t leg.Debit (run i) (due_debit a) v e.at) in
+    let same_c : credit S t k ≡ option_or c c' = λ i. option_or c (ends t leg.Credit (run i) (due_credit d) v e.at) in
+    let same_back : reversal S t k ≡ option_or back back' = λ i. option_or back (reverses t (run i) (cause_by d c) v e.at) in
+    let same_x : outcome_of S t k ≡ x = λ i. outcome_by (same_o i) (same_a i) (same_d i) (same_c i) (is_some (same_back i)) in
+    let is : Is S k o.terms x = λ y w. same_x ∙ w in
+    all_append S k (sent_on_decision S o.terms x (anew a a') ++ sent_on_debit S o.terms x (anew d d') ++ sent_on_credit S o.terms x (anew c c')) (sent_on_reversal o.terms x (anew back back'))
+    (all_append S k (sent_on_decision S o.terms x (anew a a') ++ sent_on_debit S o.terms x (anew d d')) (sent_on_credit S o.terms x (anew c c'))
+    (all_append S k (sent_on_decision S o.terms x (anew a a')) (sent_on_debit S o.terms x (anew d d'))
+    (decision_backed S k o x (anew a a') same_o is (λ y w. same_a ∙ anew_found a a' y w))
+    (debit_backed S k o x (anew d d') same_o is (λ y w. same_d ∙ anew_found d d' y w)))
+    (credit_backed S k o x (anew c c') same_o is (λ y w. same_c ∙ anew_found c c' y w)))
+    (reversal_backed S k o x (anew back back') same_o is)
 
 again_backed : (S : List SetupLine) (h : List Entry) (o : Opening) (x : Option Outcome) (why : Option Code) → opening S o.terms.txn h ≡ Some o → Is S h o.terms x → (is_some why ≡ true → is_some (cause S o.terms.txn h) ≡ true) → AllBacked S h (again S o.terms x why)
 again_backed S h o (Some x) why b e f = confirm_backed S h o (Some x) b e
@@ -199,35 +208,35 @@ sent_again_backed : (S : List SetupLine) (h : List Entry) (o : Opening) (x : Opt
 sent_again_backed S h o x why true a = a
 sent_again_backed S h o x why false a = tt
 
-event_backed : (S : List SetupLine) (h : List Entry) (e : Entry) (v : Event) (t : List ℕ) (o : Option Opening) → event_of h e.call ≡ v → opening S t h ≡ o → AllBacked S (e ∷ h) (sent_on_event S h v e.at o)
-event_backed S h e v t None is begun = tt
-event_backed S h e v t (Some o) is begun =
+event_backed : (S : List SetupLine) (h : List Entry) (e : Entry) (v : Event) (t : List ℕ) (o : Option Opening) → is_closed h ≡ false → event_of h e.call ≡ v → opening S t h ≡ o → AllBacked S (e ∷ h) (sent_on_event S h v e.at o)
+event_backed S h e v t None run is begun = tt
+event_backed S h e v t (Some o) run is begun =
     let named : o.terms.txn ≡ t = opening_is_named S t h o begun in
-    subst (λ (v : Event). AllBacked S (e ∷ h) (sent_by_txn S h o v e.at)) is (txn_backed S h e o (ap (λ (t : List ℕ). opening S t h) named ∙ begun))
+    subst (λ (v : Event). AllBacked S (e ∷ h) (sent_by_txn S h o v e.at)) is (txn_backed S h e o run (ap (λ (t : List ℕ). opening S t h) named ∙ begun))
 
-late_backed : (S : List SetupLine) (h : List Entry) (e : Entry) (t : List ℕ) (o : Option Opening) → event_of h e.call ≡ event.Late t → opening S t h ≡ o → AllBacked S (e ∷ h) (sent_on_late S h e.at o)
-late_backed S h e t None is begun = tt
-late_backed S h e t (Some o) is begun =
+late_backed : (S : List SetupLine) (h : List Entry) (e : Entry) (t : List ℕ) (o : Option Opening) → is_closed h ≡ false → event_of h e.call ≡ event.Late t → opening S t h ≡ o → AllBacked S (e ∷ h) (sent_on_late S h e.at o)
+late_backed S h e t None run is begun = tt
+late_backed S h e t (Some o) run is begun =
     let k = e ∷ h in
     let u = o.terms.txn in
     let named : u ≡ t = opening_is_named S t h o begun in
     let here : opening S u h ≡ Some o = ap (λ (t : List ℕ). opening S t h) named ∙ begun in
     all_append S k (sent_by_txn S h o (event.Late u) e.at) (sent_again S o.terms (outcome_of S u h) (cause S u h) (is_due S u h e.at))
-    (subst (λ (v : Event). AllBacked S k (sent_by_txn S h o v e.at)) (is ∙ ap event.Late (sym named)) (txn_backed S h e o here))
+    (subst (λ (v : Event). AllBacked S k (sent_by_txn S h o v e.at)) (is ∙ ap event.Late (sym named)) (txn_backed S h e o run here))
     (sent_again_backed S k o (outcome_of S u h) (cause S u h) (is_due S u h e.at)
     (again_backed S k o (outcome_of S u h) (cause S u h) (opening_stays_one S u e h o here) (λ y w. outcome_stays S u (e ∷ []) h y w) (λ s. cause_held S u e h s)))
 
 said_backed : (S : List SetupLine) (h : List Entry) (e : Entry) (p : List ℕ) (what : Said) → is_closed h ≡ false → event_of h e.call ≡ event.Heard p what → AllBacked S (e ∷ h) (sent_on_said S h p what e.at)
 said_backed S h e p (said.Pay r) run is = opening_backed S (e ∷ h) (opens_said S (opened S h) e.at p (said.Pay r)) (λ o opens. (opens_found S e h o ((λ i. cond (run i) None (opens_on S (opened S h) (is i) e.at)) ∙ opens)).1)
-said_backed S h e p (said.Auth a) run is = event_backed S h e (event.Heard p (said.Auth a)) a.txn (opening S a.txn h) is refl
+said_backed S h e p (said.Auth a) run is = event_backed S h e (event.Heard p (said.Auth a)) a.txn (opening S a.txn h) run is refl
 said_backed S h e p (said.Check t) run is = tt
 said_backed S h e p (said.Confirmed t) run is = tt
 said_backed S h e p said.Foreign run is = tt
 
 on_backed : (S : List SetupLine) (h : List Entry) (e : Entry) (v : Event) → is_closed h ≡ false → event_of h e.call ≡ v → AllBacked S (e ∷ h) (sent_on S h v e.at)
 on_backed S h e (event.Heard p what) run is = said_backed S h e p what run is
-on_backed S h e (event.Answered t l a) run is = event_backed S h e (event.Answered t l a) t (opening S t h) is refl
-on_backed S h e (event.Late t) run is = late_backed S h e t (opening S t h) is refl
+on_backed S h e (event.Answered t l a) run is = event_backed S h e (event.Answered t l a) t (opening S t h) run is refl
+on_backed S h e (event.Late t) run is = late_backed S h e t (opening S t h) run is refl
 on_backed S h e event.Unread run is = tt
 on_backed S h e (event.Ordered t l) run is = tt
 on_backed S h e event.Told run is = tt
