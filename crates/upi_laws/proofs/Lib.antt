@@ -4,3 +4,5 @@ pub mod Openings
 pub mod Steps
 pub mod Closing
 pub mod Beginnings
+pub mod Backed
+pub mod Told

@@ -10,3 +10,4 @@ pub mod Settlement
 pub mod Owners
 pub mod Laws
 pub mod Sound
+pub mod Backed

@@ -32,7 +32,7 @@ use Rattle.upi_laws.specs.declared.places.Decision.TheVariants as decided
 use Rattle.upi_laws.specs.declared.places.LegEnd.{LegEnd}
 use Rattle.upi_laws.specs.declared.places.LegEnd.TheVariants as ended
 use Rattle.upi_laws.specs.History.{message_at, is_closed, event_of}
-use Rattle.upi_laws.specs.Places.{side, asking, asked, opened, opening, opens_said, decides, decision, ends, debit, due_debit, credit, due_credit, cause, reverses, reversal}
+use Rattle.upi_laws.specs.Places.{side, asking, asked, opened, opening, opens_said, decides, decision, ends, debit, due_debit, credit, due_credit, cause, cause_by, reverses, reversal}
 use Rattle.upi_laws.specs.Outcomes.{outcome_by, outcome_of}
 use Rattle.upi_laws.specs.Postings.{posted_at}
 use Rattle.upi_laws.specs.Dues.{is_due}
@@ -110,16 +110,20 @@ sent_again S r x why false = []
 abbrev pub sent_by_places : List SetupLine → PayReq → Option Outcome → Option Decision → Option LegEnd → Option LegEnd → Option ℕ → List Sent
 sent_by_places S r x a d c back = sent_on_decision S r x a ++ sent_on_debit S r x d ++ sent_on_credit S r x c ++ sent_on_reversal r x back
 
--- the places of an opened transaction that an event brings, with the outcome that then stands
+-- What an event brings to an opened transaction, by how its question, its debit, its credit and its reversal stand before. What is told is the outcome that then stands.
+abbrev pub sent_by_state : List SetupLine → Opening → Option Decision → Option LegEnd → Option LegEnd → Option ℕ → Event → ℕ → List Sent
+sent_by_state S o a d c back e now =
+    let t = o.terms.txn in
+    let a' = decides S false (Some o) e now in
+    let d' = ends t leg.Debit false (due_debit a) e now in
+    let c' = ends t leg.Credit false (due_credit d) e now in
+    let back' = reverses t false (cause_by d c) e now in
+    let x = outcome_by (Some o) (option_or a a') (option_or d d') (option_or c c') (is_some (option_or back back')) in
+    sent_by_places S o.terms x (anew a a') (anew d d') (anew c c') (anew back back')
+
 abbrev pub sent_by_txn : List SetupLine → List Entry → Opening → Event → ℕ → List Sent
 sent_by_txn S h o e now =
-    let t = o.terms.txn in
-    let a = decides S (is_closed h) (opening S t h) e now in
-    let d = ends t leg.Debit (is_closed h) (due_debit (decision S t h)) e now in
-    let c = ends t leg.Credit (is_closed h) (due_credit (debit S t h)) e now in
-    let back = reverses t (is_closed h) (cause S t h) e now in
-    let x = outcome_by (opening S t h) (option_or (decision S t h) a) (option_or (debit S t h) d) (option_or (credit S t h) c) (is_some (option_or (reversal S t h) back)) in
-    sent_by_places S o.terms x (anew (decision S t h) a) (anew (debit S t h) d) (anew (credit S t h) c) (anew (reversal S t h) back)
+    sent_by_state S o (decision S o.terms.txn h) (debit S o.terms.txn h) (credit S o.terms.txn h) (reversal S o.terms.txn h) e now
 
 -- a Late sends also what is due again
 abbrev pub sent_on_late : List SetupLine → List Entry → ℕ → Option Opening → List Sent

@@ -6,6 +6,7 @@
 
 pub mod event;
 pub mod laws;
+pub mod laws_told;
 pub mod places;
 
 pub use event::{AuthWord, Event, Said};
