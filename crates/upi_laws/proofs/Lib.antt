@@ -6,3 +6,5 @@ pub mod Closing
 pub mod Beginnings
 pub mod Backed
 pub mod Told
+pub mod Once
+pub mod Telling

@@ -172,15 +172,15 @@ check_decides_nothing : (S : List SetupLine) (h : List Entry) (e : Entry) (p t u
 check_decides_nothing S h e p t u is =
     let k = e ∷ h in
     let o : opening S u k ≡ opening S u h =
-      ap (λ (v : Event). pick (if_of u) (joined (opened S h) (opens S (opened S h) (is_closed h) v e.at))) is ∙ ap (λ (n : Option Opening). pick (if_of u) (joined (opened S h) n)) (cond_nothing (is_closed h) None refl) in
+    ap (λ (v : Event). pick (if_of u) (joined (opened S h) (opens S (opened S h) (is_closed h) v e.at))) is ∙ ap (λ (n : Option Opening). pick (if_of u) (joined (opened S h) n)) (cond_nothing (is_closed h) None refl) in
     let a : decision S u k ≡ decision S u h =
-      or_nothing (decision S u h) _ (ap (λ (v : Event). decides S (is_closed h) (opening S u h) v e.at) is ∙ cond_nothing (is_closed h) _ (then_nothing _ (opening S u h) (λ _. refl))) in
+    or_nothing (decision S u h) _ (ap (λ (v : Event). decides S (is_closed h) (opening S u h) v e.at) is ∙ cond_nothing (is_closed h) _ (then_nothing _ (opening S u h) (λ _. refl))) in
     let d : debit S u k ≡ debit S u h =
-      or_nothing (debit S u h) _ (ap (λ (v : Event). ends u leg.Debit (is_closed h) (due_debit (decision S u h)) v e.at) is ∙ cond_nothing (is_closed h) _ (then_nothing _ (due_debit (decision S u h)) (λ _. refl))) in
+    or_nothing (debit S u h) _ (ap (λ (v : Event). ends u leg.Debit (is_closed h) (due_debit (decision S u h)) v e.at) is ∙ cond_nothing (is_closed h) _ (then_nothing _ (due_debit (decision S u h)) (λ _. refl))) in
     let c : credit S u k ≡ credit S u h =
-      or_nothing (credit S u h) _ (ap (λ (v : Event). ends u leg.Credit (is_closed h) (due_credit (debit S u h)) v e.at) is ∙ cond_nothing (is_closed h) _ (then_nothing _ (due_credit (debit S u h)) (λ _. refl))) in
+    or_nothing (credit S u h) _ (ap (λ (v : Event). ends u leg.Credit (is_closed h) (due_credit (debit S u h)) v e.at) is ∙ cond_nothing (is_closed h) _ (then_nothing _ (due_credit (debit S u h)) (λ _. refl))) in
     let r : reversal S u k ≡ reversal S u h =
-      or_nothing (reversal S u h) _ (ap (λ (v : Event). reverses u (is_closed h) (cause S u h) v e.at) is ∙ cond_nothing (is_closed h) _ (then_nothing _ (cause S u h) (λ _. refl))) in
+    or_nothing (reversal S u h) _ (ap (λ (v : Event). reverses u (is_closed h) (cause S u h) v e.at) is ∙ cond_nothing (is_closed h) _ (then_nothing _ (cause S u h) (λ _. refl))) in
     λ i. outcome_by (o i) (a i) (d i) (c i) (is_some (r i))
 
 -- ---- from there

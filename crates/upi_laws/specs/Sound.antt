@@ -186,6 +186,13 @@ pub record PrefixSound (S : List SetupLine) (P H : List Entry) : Type 0 where
 abbrev pub Sound : List SetupLine → List Entry → Type 0
 Sound S H = (later P : List Entry) → later ++ P ≡ H → PrefixSound S P H
 
+-- every prefix of a legal history tells its outcomes, and posts each leg once
+abbrev pub LegalTells : Type 0
+LegalTells = (S : List SetupLine) (later P : List Entry) → Legal S (later ++ P) → OutcomesTold S P
+
+abbrev pub LegalPostsOnce : Type 0
+LegalPostsOnce = (S : List SetupLine) (later P : List Entry) → Legal S (later ++ P) → LegsPostOnce S P (later ++ P)
+
 -- every legal history is sound
 abbrev pub LegalIsSound : Type 0
 LegalIsSound = (S : List SetupLine) (H : List Entry) → is_setup S ≡ true → Legal S H → Sound S H
