@@ -8,3 +8,6 @@ pub mod Sending
 pub mod Legal
 pub mod Settlement
 pub mod Owners
+pub mod Laws
+pub mod Sound
+pub mod Backed

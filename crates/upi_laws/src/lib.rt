@@ -5,6 +5,8 @@
 #![tactic(auto)]
 
 pub mod event;
+pub mod laws;
+pub mod laws_told;
 pub mod places;
 
 pub use event::{AuthWord, Event, Said};

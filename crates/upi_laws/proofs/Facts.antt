@@ -1,0 +1,217 @@
+-- What a place stands on, and that outcomes stay.
+use Rattle.std.proofs.Common.{◌≡◌, ℕ, Bool, true, false, cond, List, [], ◌∷◌, ◌++◌, Option, Some, None, refl, sym, ◌∙◌, ap, subst, inl, inr, ◌⊎◌}
+use Rattle.std.specs.Prelude.{is_some}
+use Rattle.std.specs.Option.{option_or, option_and_then}
+use Rattle.std.proofs.lemmas.Option.{option_and_then_some}
+use Rattle.upi_base.specs.declared.entry.Entry.{Entry}
+use Rattle.upi_base.specs.declared.code.Leg.{Leg}
+use Rattle.upi_base.specs.declared.code.Leg.TheVariants as leg
+use Rattle.upi_base.specs.declared.code.Code.{Code}
+use Rattle.upi_base.specs.declared.code.Code.TheVariants as code
+use Rattle.upi_base.specs.declared.code.Answer.{Answer}
+use Rattle.upi_base.specs.declared.code.Outcome.{Outcome}
+use Rattle.upi_base.specs.declared.setup.SetupLine.{SetupLine}
+use Rattle.upi_base.specs.Lists.{when, pick}
+use Rattle.upi_laws.specs.declared.event.Event.{Event}
+use Rattle.upi_laws.specs.declared.places.Opening.{Opening}
+use Rattle.upi_laws.specs.declared.places.Decision.{Decision}
+use Rattle.upi_laws.specs.declared.places.Decision.TheVariants as decided
+use Rattle.upi_laws.specs.declared.places.LegEnd.{LegEnd}
+use Rattle.upi_laws.specs.declared.places.LegEnd.TheVariants as ended
+use Rattle.upi_laws.specs.History.{first, is_closed, event_of}
+use Rattle.upi_laws.specs.Places.{opened, if_of, opening, decides, decides_on, decision, ends, ends_on, due_debit, debit, due_credit, credit, cause_by, cause, reverses, reverses_on, reversal}
+use Rattle.upi_laws.specs.Outcomes.{late_outcome, credit_outcome, debit_outcome, outcome_by, outcome_of}
+use Rattle.upi_laws.specs.Postings.{arrives, reversal_due, arrival, answer, post, post_leg}
+use Rattle.upi_laws.specs.Dues.{acknowledges, acknowledged}
+use Rattle.upi_laws.specs.Laws.{Stays, PlacesStay, AllPlacesStay, OutcomeStays, PlacesFollow, AllPlacesFollow}
+use Rattle.upi_laws.proofs.Stays.{or_cases, guarded, if_some, none_some, first_found, FoundAt, opening_stays, opening_stays_one, decision_stays, debit_stays, credit_stays, reversal_stays, acknowledged_stays, arrival_stays, answer_stays}
+
+-- what stood before a found place still stands
+pub found_stays : {X : Type 0} (fits : List Entry → Event → ℕ → Option X) (h : List Entry) (x : X) (f : FoundAt fits h x) (P : List Entry → Type 0)
+    → ((later k : List Entry) → P k → P (later ++ k)) → P f.before → P h
+found_stays fits h x f P stays p = subst P f.splits (stays f.later (f.entry ∷ f.before) (stays (f.entry ∷ []) f.before p))
+
+pub decided_opened : (S : List SetupLine) (t : List ℕ) (h : List Entry) (d : Decision) → decision S t h ≡ Some d → (o : Opening) × (opening S t h ≡ Some o)
+decided_opened S t h d e =
+    let f = first_found (λ before e now. decides S (is_closed before) (opening S t before) e now) h d e in
+    let g = guarded (is_closed f.before) _ d f.fitted in
+    option_and_then_some (λ (o : Opening). decides_on S o (event_of f.before f.entry.call) f.entry.at) (opening S t f.before) d g.1 (λ o is _.
+    (o, found_stays (λ before e now. decides S (is_closed before) (opening S t before) e now) h d f (λ k. opening S t k ≡ Some o) (λ later k. opening_stays S t later k o) is))
+
+pub due_debit_is : (d : Option Decision) (due : ℕ) → due_debit d ≡ Some due → (at : ℕ) × (d ≡ Some (decided.Yes at))
+due_debit_is (Some (decided.Yes at)) due e = (at, refl)
+due_debit_is (Some decided.No) due e = absurd cc
+due_debit_is (Some decided.Late) due e = absurd cc
+due_debit_is (Some decided.Close) due e = absurd cc
+due_debit_is None due e = absurd cc
+
+pub due_credit_is : (d : Option LegEnd) (due : ℕ) → due_credit d ≡ Some due → (at : ℕ) × (d ≡ Some (ended.Posted at))
+due_credit_is (Some (ended.Posted at)) due e = (at, refl)
+due_credit_is (Some (ended.Declined c)) due e = absurd cc
+due_credit_is (Some ended.Late) due e = absurd cc
+due_credit_is (Some ended.Close) due e = absurd cc
+due_credit_is None due e = absurd cc
+
+pub debit_approved : (S : List SetupLine) (t : List ℕ) (h : List Entry) (d : LegEnd) → debit S t h ≡ Some d → (at : ℕ) × (decision S t h ≡ Some (decided.Yes at))
+debit_approved S t h d e =
+    let f = first_found (λ before e now. ends t leg.Debit (is_closed before) (due_debit (decision S t before)) e now) h d e in
+    let g = guarded (is_closed f.before) _ d f.fitted in
+    option_and_then_some (λ (due : ℕ). ends_on t leg.Debit (event_of f.before f.entry.call) f.entry.at due) (due_debit (decision S t f.before)) d g.1 (λ due is _.
+    let y = due_debit_is (decision S t f.before) due is in
+    (y.0, found_stays (λ before e now. ends t leg.Debit (is_closed before) (due_debit (decision S t before)) e now) h d f (λ k. decision S t k ≡ Some (decided.Yes y.0)) (λ later k. decision_stays S t later k (decided.Yes y.0)) y.1))
+
+pub credit_debited : (S : List SetupLine) (t : List ℕ) (h : List Entry) (d : LegEnd) → credit S t h ≡ Some d → (at : ℕ) × (debit S t h ≡ Some (ended.Posted at))
+credit_debited S t h d e =
+    let f = first_found (λ before e now. ends t leg.Credit (is_closed before) (due_credit (debit S t before)) e now) h d e in
+    let g = guarded (is_closed f.before) _ d f.fitted in
+    option_and_then_some (λ (due : ℕ). ends_on t leg.Credit (event_of f.before f.entry.call) f.entry.at due) (due_credit (debit S t f.before)) d g.1 (λ due is _.
+    let y = due_credit_is (debit S t f.before) due is in
+    (y.0, found_stays (λ before e now. ends t leg.Credit (is_closed before) (due_credit (debit S t before)) e now) h d f (λ k. debit S t k ≡ Some (ended.Posted y.0)) (λ later k. debit_stays S t later k (ended.Posted y.0)) y.1))
+
+-- ---- why a reversal is wanted
+
+pub cause_from : (d c : Option LegEnd) (k : Code) → cause_by d c ≡ Some k → ((d ≡ Some ended.Late) × (k ≡ code.DebitLate)) ⊎ (c ≡ Some (ended.Declined k))
+cause_from (Some ended.Late) c k e = inl (refl, cc)
+cause_from None None k e = absurd cc
+cause_from None (Some (ended.Posted _)) k e = absurd cc
+cause_from None (Some (ended.Declined x)) k e = inr cc
+cause_from None (Some ended.Late) k e = absurd cc
+cause_from None (Some ended.Close) k e = absurd cc
+cause_from (Some (ended.Posted _)) None k e = absurd cc
+cause_from (Some (ended.Posted _)) (Some (ended.Posted _)) k e = absurd cc
+cause_from (Some (ended.Posted _)) (Some (ended.Declined x)) k e = inr cc
+cause_from (Some (ended.Posted _)) (Some ended.Late) k e = absurd cc
+cause_from (Some (ended.Posted _)) (Some ended.Close) k e = absurd cc
+cause_from (Some (ended.Declined _)) None k e = absurd cc
+cause_from (Some (ended.Declined _)) (Some (ended.Posted _)) k e = absurd cc
+cause_from (Some (ended.Declined _)) (Some (ended.Declined x)) k e = inr cc
+cause_from (Some (ended.Declined _)) (Some ended.Late) k e = absurd cc
+cause_from (Some (ended.Declined _)) (Some ended.Close) k e = absurd cc
+cause_from (Some ended.Close) None k e = absurd cc
+cause_from (Some ended.Close) (Some (ended.Posted _)) k e = absurd cc
+cause_from (Some ended.Close) (Some (ended.Declined x)) k e = inr cc
+cause_from (Some ended.Close) (Some ended.Late) k e = absurd cc
+cause_from (Some ended.Close) (Some ended.Close) k e = absurd cc
+
+pub cause_late : (d c : Option LegEnd) → d ≡ Some ended.Late → cause_by d c ≡ Some code.DebitLate
+cause_late d c e = rw e refl
+
+pub cause_declined : (d c : Option LegEnd) (at : ℕ) (k : Code) → d ≡ Some (ended.Posted at) → c ≡ Some (ended.Declined k) → cause_by d c ≡ Some k
+cause_declined d c at k e f = rw (e, f) refl
+
+pub cause_stays : (S : List SetupLine) (t : List ℕ) (later h : List Entry) → Stays (cause S t h) (cause S t (later ++ h))
+cause_stays S t later h k is = elim (cause_from (debit S t h) (credit S t h) k is) [
+  | inl late ↦ cause_late (debit S t (later ++ h)) (credit S t (later ++ h)) (debit_stays S t later h ended.Late late.0) ∙ ap Some (sym late.1)
+  | inr declined ↦
+      let d = credit_debited S t h (ended.Declined k) declined in
+      cause_declined (debit S t (later ++ h)) (credit S t (later ++ h)) d.0 k (debit_stays S t later h (ended.Posted d.0) d.1) (credit_stays S t later h (ended.Declined k) declined)
+]
+
+pub reversal_caused : (S : List SetupLine) (t : List ℕ) (h : List Entry) (k : ℕ) → reversal S t h ≡ Some k → (c : Code) × (cause S t h ≡ Some c)
+reversal_caused S t h k e =
+    let f = first_found (λ before e now. reverses t (is_closed before) (cause S t before) e now) h k e in
+    let g = guarded (is_closed f.before) _ k f.fitted in
+    option_and_then_some (λ (c : Code). reverses_on t (event_of f.before f.entry.call) f.entry.at) (cause S t f.before) k g.1 (λ c is _.
+    (c, found_stays (λ before e now. reverses t (is_closed before) (cause S t before) e now) h k f (λ x. cause S t x ≡ Some c) (λ later x. cause_stays S t later x c) is))
+
+-- ---- outcomes
+
+is_some_grows : {X : Type 0} (o p : Option X) → Stays o p → is_some o ≡ true → is_some p ≡ true
+is_some_grows None p g h = absurd cc
+is_some_grows (Some x) p g h = rw (g x refl) refl
+
+when_grows : {X : Type 0} (b b' : Bool) (x y : X) → (b ≡ true → b' ≡ true) → when b x ≡ Some y → when b' x ≡ Some y
+when_grows false b' x y g h = absurd cc
+when_grows true b' x y g h = rw (g refl) h
+
+credit_grows : (c c' : Option LegEnd) (r r' : Bool) → Stays c c' → (r ≡ true → r' ≡ true) → Stays (credit_outcome c r) (credit_outcome c' r')
+credit_grows None c' r r' gc g x h = absurd cc
+credit_grows (Some (ended.Posted at)) c' r r' gc g x h = rw (gc (ended.Posted at) refl) h
+credit_grows (Some (ended.Declined c)) c' r r' gc g x h = rw (gc (ended.Declined c) refl) (when_grows r r' _ x g h)
+credit_grows (Some ended.Late) c' r r' gc g x h = rw (gc ended.Late refl) h
+credit_grows (Some ended.Close) c' r r' gc g x h = rw (gc ended.Close refl) h
+
+debit_grows : (d d' c c' : Option LegEnd) (r r' : Bool) → Stays d d' → Stays c c' → (r ≡ true → r' ≡ true) → Stays (debit_outcome d c r) (debit_outcome d' c' r')
+debit_grows None d' c c' r r' gd gc g x h = absurd cc
+debit_grows (Some (ended.Posted at)) d' c c' r r' gd gc g x h = rw (gd (ended.Posted at) refl) (credit_grows c c' r r' gc g x h)
+debit_grows (Some (ended.Declined k)) d' c c' r r' gd gc g x h = rw (gd (ended.Declined k) refl) h
+debit_grows (Some ended.Late) d' c c' r r' gd gc g x h = rw (gd ended.Late refl) (when_grows r r' _ x g h)
+debit_grows (Some ended.Close) d' c c' r r' gd gc g x h = rw (gd ended.Close refl) h
+
+late_grows : (o o' : Option Opening) → Stays o o' → Stays (late_outcome o) (late_outcome o')
+late_grows None o' g x h = absurd cc
+late_grows (Some o) o' g x h = rw (g o refl) h
+
+pub outcome_grows : (o o' : Option Opening) (a a' : Option Decision) (d d' c c' : Option LegEnd) (r r' : Bool) → Stays o o' → Stays a a' → Stays d d' → Stays c c' → (r ≡ true → r' ≡ true)
+    → Stays (outcome_by o a d c r) (outcome_by o' a' d' c' r')
+outcome_grows o o' None a' d d' c c' r r' go ga gd gc g x h = absurd cc
+outcome_grows o o' (Some (decided.Yes at)) a' d d' c c' r r' go ga gd gc g x h = rw (ga (decided.Yes at) refl) (debit_grows d d' c c' r r' gd gc g x h)
+outcome_grows o o' (Some decided.No) a' d d' c c' r r' go ga gd gc g x h = rw (ga decided.No refl) h
+outcome_grows o o' (Some decided.Late) a' d d' c c' r r' go ga gd gc g x h = rw (ga decided.Late refl) (late_grows o o' go x h)
+outcome_grows o o' (Some decided.Close) a' d d' c c' r r' go ga gd gc g x h = rw (ga decided.Close refl) h
+
+pub outcome_stays : OutcomeStays
+outcome_stays S t later h =
+    outcome_grows (opening S t h) (opening S t (later ++ h)) (decision S t h) (decision S t (later ++ h)) (debit S t h) (debit S t (later ++ h)) (credit S t h) (credit S t (later ++ h))
+    (is_some (reversal S t h)) (is_some (reversal S t (later ++ h)))
+    (opening_stays S t later h) (decision_stays S t later h) (debit_stays S t later h) (credit_stays S t later h) (is_some_grows (reversal S t h) (reversal S t (later ++ h)) (reversal_stays S t later h))
+
+pub places_stay : AllPlacesStay
+places_stay S t later h = record {
+  opening_stays = opening_stays S t later h;
+  decision_stays = decision_stays S t later h;
+  debit_stays = debit_stays S t later h;
+  credit_stays = credit_stays S t later h;
+  cause_stays = cause_stays S t later h;
+  reversal_stays = reversal_stays S t later h;
+  acknowledged_stays = acknowledged_stays S t later h;
+  arrival_stays = λ l. arrival_stays S t l later h;
+  answer_stays = λ l. answer_stays S t l later h;
+}
+
+-- ---- acknowledgements and answers
+
+acknowledges_told : (o : Option Opening) (x : Option Outcome) (e : Event) (now k : ℕ) → acknowledges o x e now ≡ Some k → (y : Outcome) × (x ≡ Some y)
+acknowledges_told None x e now k h = absurd cc
+acknowledges_told (Some o) None e now k h = absurd cc
+acknowledges_told (Some o) (Some y) e now k h = (y, refl)
+
+pub acknowledged_told : (S : List SetupLine) (t : List ℕ) (h : List Entry) (k : ℕ) → acknowledged S t h ≡ Some k → (x : Outcome) × (outcome_of S t h ≡ Some x)
+acknowledged_told S t h k e =
+    let f = first_found (λ before e now. acknowledges (opening S t before) (outcome_of S t before) e now) h k e in
+    let y = acknowledges_told (opening S t f.before) (outcome_of S t f.before) (event_of f.before f.entry.call) f.entry.at k f.fitted in
+    (y.0, found_stays (λ before e now. acknowledges (opening S t before) (outcome_of S t before) e now) h k f (λ x. outcome_of S t x ≡ Some y.0) (λ later x. outcome_stays S t later x y.0) y.1)
+
+pub answered_opened : (S : List SetupLine) (h : List Entry) (t : List ℕ) (l : Leg) (a : Answer) → answer S h t l ≡ Some a → (o : Opening) × (opening S t h ≡ Some o)
+answered_opened S [] t l a e = absurd cc
+answered_opened S (x ∷ h) t l a e = elim (or_cases (answer S h t l) _ a e) [
+  | inl old ↦ let k = answered_opened S h t l a old in (k.0, opening_stays_one S t x h k.0 k.1)
+  | inr new ↦
+      let c = if_some (arrives t l (is_closed h) (reversal_due S t h) (event_of h x.call)) (post S (opened S h) (answer S h) t l) a new.1 in
+      option_and_then_some (λ (o : Opening). post_leg S (opened S h) (answer S h) o.terms l) (opening S t h) a c.1 (λ o is _. (o, opening_stays_one S t x h o is))
+]
+
+when_or : {X : Type 0} (o : Option X) (b : Bool) (x : X) → b ≡ true → (y : X) × (option_or o (when b x) ≡ Some y)
+when_or None b x e = (x, rw e refl)
+when_or (Some y) b x e = (y, refl)
+
+pub arrives_arrived : (S : List SetupLine) (e : Entry) (h : List Entry) (t : List ℕ) (l : Leg) → arrives t l (is_closed h) (reversal_due S t h) (event_of h e.call) ≡ true → (k : ℕ) × (arrival S t l (e ∷ h) ≡ Some k)
+arrives_arrived S e h t l c = when_or (arrival S t l h) (arrives t l (is_closed h) (reversal_due S t h) (event_of h e.call)) e.at c
+
+pub answered_arrived : (S : List SetupLine) (h : List Entry) (t : List ℕ) (l : Leg) (a : Answer) → answer S h t l ≡ Some a → (k : ℕ) × (arrival S t l h ≡ Some k)
+answered_arrived S [] t l a e = absurd cc
+answered_arrived S (x ∷ h) t l a e = elim (or_cases (answer S h t l) _ a e) [
+  | inl old ↦ let k = answered_arrived S h t l a old in (k.0, arrival_stays S t l (x ∷ []) h k.0 k.1)
+  | inr new ↦ arrives_arrived S x h t l (if_some (arrives t l (is_closed h) (reversal_due S t h) (event_of h x.call)) (post S (opened S h) (answer S h) t l) a new.1).0
+]
+
+pub places_follow : AllPlacesFollow
+places_follow S t h = record {
+  decided_opened = decided_opened S t h;
+  debit_approved = debit_approved S t h;
+  credit_debited = credit_debited S t h;
+  reversal_caused = reversal_caused S t h;
+  acknowledged_told = acknowledged_told S t h;
+  answered_opened = answered_opened S h t;
+  answered_arrived = answered_arrived S h t;
+}

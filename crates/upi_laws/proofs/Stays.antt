@@ -1,0 +1,157 @@
+-- What was found in a prefix is found in the history.
+use Rattle.std.proofs.Common.{◌≡◌, ◌≢◌, ℕ, Bool, true, false, cond, List, [], ◌∷◌, ◌++◌, Option, Some, None, refl, sym, ◌∙◌, ap, subst, inl, inr, ◌⊎◌}
+use Rattle.std.specs.Prelude.{is_some}
+use Rattle.std.specs.Option.{option_or, option_and_then}
+use Rattle.std.proofs.lemmas.Option.{option_and_then_some}
+use Rattle.upi_base.specs.declared.entry.Entry.{Entry}
+use Rattle.upi_base.specs.declared.code.Leg.{Leg}
+use Rattle.upi_base.specs.declared.code.Leg.TheVariants as leg
+use Rattle.upi_base.specs.declared.code.Code.{Code}
+use Rattle.upi_base.specs.declared.code.Outcome.{Outcome}
+use Rattle.upi_base.specs.declared.setup.SetupLine.{SetupLine}
+use Rattle.upi_base.specs.Lists.{when, pick, joined}
+use Rattle.upi_laws.specs.declared.event.Event.{Event}
+use Rattle.upi_laws.specs.declared.places.Opening.{Opening}
+use Rattle.upi_laws.specs.declared.places.Decision.{Decision}
+use Rattle.upi_laws.specs.declared.places.Decision.TheVariants as decided
+use Rattle.upi_laws.specs.declared.places.LegEnd.{LegEnd}
+use Rattle.upi_laws.specs.declared.places.LegEnd.TheVariants as ended
+use Rattle.upi_laws.specs.History.{first, is_closed, event_of}
+use Rattle.upi_laws.specs.Places.{opens, opened, if_of, opening, decides, decides_on, decision, ends, ends_on, due_debit, debit, due_credit, credit, cause_by, cause, reverses, reversal}
+use Rattle.upi_laws.specs.Outcomes.{late_outcome, credit_outcome, debit_outcome, outcome_by, outcome_of}
+use Rattle.upi_laws.specs.Postings.{arrives, reversal_due, arrival, answer}
+use Rattle.upi_laws.specs.Dues.{acknowledges, acknowledged}
+use Rattle.upi_laws.specs.Laws.{Stays, PlacesStay, AllPlacesStay, OpeningsGrow, OutcomeStays}
+
+-- ---- options
+
+pub or_stays : {X : Type 0} (o p : Option X) (x : X) → o ≡ Some x → option_or o p ≡ Some x
+or_stays None p x h = absurd cc
+or_stays (Some y) p x h = h
+
+pub or_cases : {X : Type 0} (o p : Option X) (x : X) → option_or o p ≡ Some x → (o ≡ Some x) ⊎ ((o ≡ None) × (p ≡ Some x))
+or_cases None p x h = inr (refl, h)
+or_cases (Some y) p x h = inl h
+
+pub or_none : {X : Type 0} (o : Option X) → option_or o None ≡ o
+or_none None = refl
+or_none (Some x) = refl
+
+pub or_nothing : {X : Type 0} (o p : Option X) → p ≡ None → option_or o p ≡ o
+or_nothing None p e = e
+or_nothing (Some x) p e = refl
+
+pub or_both_none : {X : Type 0} (o p : Option X) → o ≡ None → p ≡ None → option_or o p ≡ None
+or_both_none None p e f = f
+or_both_none (Some x) p e f = absurd cc
+
+pub or_assoc : {X : Type 0} (o p q : Option X) → option_or o (option_or p q) ≡ option_or (option_or o p) q
+or_assoc None p q = refl
+or_assoc (Some x) p q = refl
+
+pub guarded : {X : Type 0} (b : Bool) (o : Option X) (x : X) → cond b None o ≡ Some x → (b ≡ false) × (o ≡ Some x)
+guarded true o x h = absurd cc
+guarded false o x h = (refl, h)
+
+pub if_some : {X : Type 0} (b : Bool) (o : Option X) (x : X) → cond b o None ≡ Some x → (b ≡ true) × (o ≡ Some x)
+if_some true o x h = (refl, h)
+if_some false o x h = absurd cc
+
+pub some_same : {X : Type 0} (x y : X) → Some x ≡ Some y → x ≡ y
+some_same x y e = cc
+
+pub none_some : {X : Type 0} (o : Option X) (x : X) → o ≡ None → o ≡ Some x → ⊥
+none_some o x e f = cc
+
+pub some_is : {X : Type 0} (o : Option X) (x : X) → o ≡ Some x → is_some o ≡ true
+some_is o x e = rw e refl
+
+pub is_some_has : {X : Type 0} (o : Option X) → is_some o ≡ true → (x : X) × (o ≡ Some x)
+is_some_has None h = absurd cc
+is_some_has (Some x) h = (x, refl)
+
+-- ---- first places
+
+pub first_stays : {X : Type 0} (fits : List Entry → Event → ℕ → Option X) (later h : List Entry) → Stays (first fits h) (first fits (later ++ h))
+first_stays fits [] h x e = e
+first_stays fits (l ∷ later) h x e = or_stays (first fits (later ++ h)) _ x (first_stays fits later h x e)
+
+-- where a place was found
+pub record FoundAt {X : Type 0} (fits : List Entry → Event → ℕ → Option X) (h : List Entry) (x : X) : Type 0 where
+  pub later : List Entry
+  pub entry : Entry
+  pub before : List Entry
+  pub splits : later ++ (entry ∷ before) ≡ h
+  pub none : first fits before ≡ None
+  pub fitted : fits before (event_of before entry.call) entry.at ≡ Some x
+
+pub first_found : {X : Type 0} (fits : List Entry → Event → ℕ → Option X) (h : List Entry) (x : X) → first fits h ≡ Some x → FoundAt fits h x
+first_found fits [] x h = absurd cc
+first_found fits (e ∷ before) x h = elim (or_cases (first fits before) (fits before (event_of before e.call) e.at) x h) [
+  | inl old ↦ let r = first_found fits before x old in record { later = e ∷ r.later; entry = r.entry; before = r.before; splits = ap (λ (l : List Entry). e ∷ l) r.splits; none = r.none; fitted = r.fitted }
+  | inr new ↦ record { later = []; entry = e; before = before; splits = refl; none = new.0; fitted = new.1 }
+]
+
+-- ---- openings
+
+pub pick_append : {A X : Type 0} (f : A → Option X) (xs ys : List A) → pick f (xs ++ ys) ≡ option_or (pick f xs) (pick f ys)
+pick_append f [] ys = refl
+pick_append f (x ∷ xs) ys = ap (option_or (f x)) (pick_append f xs ys) ∙ or_assoc (f x) (pick f xs) (pick f ys)
+
+pub pick_joined : {A X : Type 0} (f : A → Option X) (xs : List A) (o : Option A) → pick f (joined xs o) ≡ option_or (pick f xs) (option_and_then f o)
+pick_joined f xs None = sym (or_none (pick f xs))
+pick_joined f xs (Some y) = pick_append f xs (y ∷ []) ∙ ap (option_or (pick f xs)) (or_none (f y))
+
+-- what an entry adds to the opening of a transaction
+pub opening_more : (S : List SetupLine) (t : List ℕ) (e : Entry) (before : List Entry)
+    → opening S t (e ∷ before) ≡ option_or (opening S t before) (option_and_then (if_of t) (opens S (opened S before) (is_closed before) (event_of before e.call) e.at))
+opening_more S t e before = pick_joined (if_of t) (opened S before) (opens S (opened S before) (is_closed before) (event_of before e.call) e.at)
+
+pub opening_stays_one : (S : List SetupLine) (t : List ℕ) (e : Entry) (h : List Entry) → Stays (opening S t h) (opening S t (e ∷ h))
+opening_stays_one S t e h o is = opening_more S t e h ∙ or_stays (opening S t h) _ o is
+
+pub opening_stays : (S : List SetupLine) (t : List ℕ) (later h : List Entry) → Stays (opening S t h) (opening S t (later ++ h))
+opening_stays S t [] h o is = is
+opening_stays S t (e ∷ later) h o is = opening_stays_one S t e (later ++ h) o (opening_stays S t later h o is)
+
+append_nil : {X : Type 0} (xs : List X) → xs ++ [] ≡ xs
+append_nil [] = refl
+append_nil (x ∷ xs) = ap (λ (l : List _). x ∷ l) (append_nil xs)
+
+append_assoc : {X : Type 0} (xs ys zs : List X) → (xs ++ ys) ++ zs ≡ xs ++ (ys ++ zs)
+append_assoc [] ys zs = refl
+append_assoc (x ∷ xs) ys zs = ap (λ (l : List _). x ∷ l) (append_assoc xs ys zs)
+
+joined_more : {X : Type 0} (base more whole : List X) (o : Option X) → whole ≡ base ++ more → (m : List X) × (joined whole o ≡ base ++ m)
+joined_more base more whole None e = (more, e)
+joined_more base more whole (Some x) e = (more ++ x ∷ [], ap (λ (l : List _). l ++ x ∷ []) e ∙ append_assoc base more (x ∷ []))
+
+pub openings_grow : OpeningsGrow
+openings_grow S [] h = ([], sym (append_nil (opened S h)))
+openings_grow S (e ∷ later) h =
+    let r = openings_grow S later h in
+    joined_more (opened S h) r.0 (opened S (later ++ h)) (opens S (opened S (later ++ h)) (is_closed (later ++ h)) (event_of (later ++ h) e.call) e.at) r.1
+
+-- ---- places
+
+pub decision_stays : (S : List SetupLine) (t : List ℕ) (later h : List Entry) → Stays (decision S t h) (decision S t (later ++ h))
+decision_stays S t later h = first_stays (λ before e now. decides S (is_closed before) (opening S t before) e now) later h
+
+pub debit_stays : (S : List SetupLine) (t : List ℕ) (later h : List Entry) → Stays (debit S t h) (debit S t (later ++ h))
+debit_stays S t later h = first_stays (λ before e now. ends t leg.Debit (is_closed before) (due_debit (decision S t before)) e now) later h
+
+pub credit_stays : (S : List SetupLine) (t : List ℕ) (later h : List Entry) → Stays (credit S t h) (credit S t (later ++ h))
+credit_stays S t later h = first_stays (λ before e now. ends t leg.Credit (is_closed before) (due_credit (debit S t before)) e now) later h
+
+pub reversal_stays : (S : List SetupLine) (t : List ℕ) (later h : List Entry) → Stays (reversal S t h) (reversal S t (later ++ h))
+reversal_stays S t later h = first_stays (λ before e now. reverses t (is_closed before) (cause S t before) e now) later h
+
+pub acknowledged_stays : (S : List SetupLine) (t : List ℕ) (later h : List Entry) → Stays (acknowledged S t h) (acknowledged S t (later ++ h))
+acknowledged_stays S t later h = first_stays (λ before e now. acknowledges (opening S t before) (outcome_of S t before) e now) later h
+
+pub arrival_stays : (S : List SetupLine) (t : List ℕ) (l : Leg) (later h : List Entry) → Stays (arrival S t l h) (arrival S t l (later ++ h))
+arrival_stays S t l later h = first_stays (λ before e now. when (arrives t l (is_closed before) (reversal_due S t before) e) now) later h
+
+pub answer_stays : (S : List SetupLine) (t : List ℕ) (l : Leg) (later h : List Entry) → Stays (answer S h t l) (answer S (later ++ h) t l)
+answer_stays S t l [] h a e = e
+answer_stays S t l (x ∷ later) h a e = or_stays (answer S (later ++ h) t l) _ a (answer_stays S t l later h a e)

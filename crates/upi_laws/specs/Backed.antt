@@ -1,0 +1,177 @@
+-- What stands behind each message of a legal history, and what its entries tell of outcomes.
+use Rattle.std.specs.Prelude.{ℕ, ◌≡◌, Bool, true, false, List, [], ◌∷◌, ◌++◌, Option, Some, None, is_some}
+use Rattle.std.specs.Option.{option_and_then}
+use Rattle.std.specs.List.{AllByRecursion}
+use Rattle.std.specs.Str.{bytes_eq}
+use Rattle.upi_base.specs.declared.entry.Entry.{Entry}
+use Rattle.upi_base.specs.declared.message.PayReq.{PayReq}
+use Rattle.upi_base.specs.declared.sent.Sent.{Sent}
+use Rattle.upi_base.specs.declared.sent.AuthQuestion.{AuthQuestion}
+use Rattle.upi_base.specs.declared.sent.Party.{Party}
+use Rattle.upi_base.specs.declared.sent.Party.TheVariants as party
+use Rattle.upi_base.specs.declared.sent.Body.{Body}
+use Rattle.upi_base.specs.declared.sent.Body.TheVariants as body
+use Rattle.upi_base.specs.declared.code.Kind.{Kind}
+use Rattle.upi_base.specs.declared.code.Leg.{Leg}
+use Rattle.upi_base.specs.declared.code.Leg.TheVariants as leg
+use Rattle.upi_base.specs.declared.code.Answer.{Answer}
+use Rattle.upi_base.specs.declared.code.Outcome.{Outcome}
+use Rattle.upi_base.specs.declared.code.Policy.{Policy}
+use Rattle.upi_base.specs.declared.code.Policy.TheVariants as policy
+use Rattle.upi_base.specs.declared.code.Reply.{Reply}
+use Rattle.upi_base.specs.declared.code.Reply.TheVariants as reply
+use Rattle.upi_base.specs.declared.setup.AccountRef.{AccountRef}
+use Rattle.upi_base.specs.declared.setup.Account.{Account}
+use Rattle.upi_base.specs.declared.setup.Listing.{Listing}
+use Rattle.upi_base.specs.declared.setup.SetupLine.{SetupLine}
+use Rattle.upi_base.specs.Lists.{when}
+use Rattle.upi_base.specs.Setup.{account_at, listing_at}
+use Rattle.upi_laws.specs.declared.event.Said.{Said}
+use Rattle.upi_laws.specs.declared.event.Said.TheVariants as said
+use Rattle.upi_laws.specs.declared.event.Event.{Event}
+use Rattle.upi_laws.specs.declared.event.Event.TheVariants as event
+use Rattle.upi_laws.specs.declared.places.Opening.{Opening}
+use Rattle.upi_laws.specs.declared.places.Decision.{Decision}
+use Rattle.upi_laws.specs.declared.places.Decision.TheVariants as decided
+use Rattle.upi_laws.specs.declared.places.LegEnd.{LegEnd}
+use Rattle.upi_laws.specs.declared.places.LegEnd.TheVariants as ended
+use Rattle.upi_laws.specs.History.{sent, message_at, event_of}
+use Rattle.upi_laws.specs.Places.{side, asking, asked, opening, decision, debit, cause}
+use Rattle.upi_laws.specs.Outcomes.{outcome_of}
+use Rattle.upi_laws.specs.Postings.{posted_at, answer}
+use Rattle.upi_laws.specs.Legal.{Legal}
+
+-- the question to the asked PSP has the terms of the opening
+pub record IsQuestion (S : List SetupLine) (h : List Entry) (from to : Party) (q : AuthQuestion) : Type 0 where
+  pub o : Opening
+  pub begun : opening S q.txn h ≡ Some o
+  pub sender : from ≡ party.Switch
+  pub receiver : to ≡ party.Psp (asked o.terms)
+  pub its_kind : q.kind ≡ o.terms.kind
+  pub its_payer : q.payer ≡ o.terms.payer
+  pub its_payee : q.payee ≡ o.terms.payee
+  pub its_amount : q.amount ≡ o.terms.amount
+  pub its_note : q.note ≡ o.terms.note
+
+-- the word that a policy gives, if it does
+abbrev pub word_of : Policy → Option Bool
+word_of policy.Yes = Some true
+word_of policy.No = Some false
+word_of policy.Ask = None
+
+abbrev pub word_at : Option Listing → Option Bool
+word_at l = option_and_then (λ (l : Listing). word_of l.policy) l
+
+-- a model PSP answers for the asked PSP, with the amount of the opening, by the policy of the asked address
+pub record IsModelAnswer (S : List SetupLine) (h : List Entry) (from to : Party) (t : List ℕ) (amount : ℕ) (word : Bool) : Type 0 where
+  pub o : Opening
+  pub begun : opening S t h ≡ Some o
+  pub sender : from ≡ party.Psp (asked o.terms)
+  pub receiver : to ≡ party.Switch
+  pub its_amount : amount ≡ o.terms.amount
+  pub its_word : word_at (listing_at S (side o.terms.kind o.terms.payee o.terms.payer)) ≡ Some word
+
+-- the place at which a leg is ordered
+abbrev pub OrderPlaced : List SetupLine → List Entry → List ℕ → Leg → Type 0
+OrderPlaced S h t leg.Debit = (at : ℕ) × (decision S t h ≡ Some (decided.Yes at))
+OrderPlaced S h t leg.Credit = (at : ℕ) × (debit S t h ≡ Some (ended.Posted at))
+OrderPlaced S h t leg.Reversal = is_some (cause S t h) ≡ true
+
+-- an order has the amount of the opening, and goes to the bank of the account at which the leg is posted
+pub record IsOrder (S : List SetupLine) (h : List Entry) (from to : Party) (t : List ℕ) (l : Leg) (amount : ℕ) (ac : AccountRef) (addr : List ℕ) : Type 0 where
+  pub o : Opening
+  pub begun : opening S t h ≡ Some o
+  pub a : Account
+  pub held : account_at S (posted_at l o.terms) ≡ Some a
+  pub sender : from ≡ party.Switch
+  pub receiver : to ≡ party.Bank a.ac.bank
+  pub its_amount : amount ≡ o.terms.amount
+  pub its_account : ac ≡ a.ac
+  pub its_address : addr ≡ posted_at l o.terms
+  pub placed : OrderPlaced S h t l
+
+-- the asking PSP is told the outcome
+pub record IsResult (S : List SetupLine) (h : List Entry) (from to : Party) (t : List ℕ) (k : Kind) (x : Outcome) (m : List ℕ) : Type 0 where
+  pub o : Opening
+  pub begun : opening S t h ≡ Some o
+  pub sender : from ≡ party.Switch
+  pub receiver : to ≡ party.Psp (asking o.terms)
+  pub its_kind : k ≡ o.terms.kind
+  pub its_request : m ≡ o.terms.head.msg_id
+  pub told : outcome_of S t h ≡ Some x
+
+-- the asked PSP is told the outcome
+pub record IsConfirmation (S : List SetupLine) (h : List Entry) (from to : Party) (t : List ℕ) (k : Kind) (x : Outcome) : Type 0 where
+  pub o : Opening
+  pub begun : opening S t h ≡ Some o
+  pub sender : from ≡ party.Switch
+  pub receiver : to ≡ party.Psp (asked o.terms)
+  pub its_kind : k ≡ o.terms.kind
+  pub told : outcome_of S t h ≡ Some x
+
+-- the asked PSP confirms that there is an outcome
+pub record IsConfirmed (S : List SetupLine) (h : List Entry) (from to : Party) (t : List ℕ) : Type 0 where
+  pub o : Opening
+  pub begun : opening S t h ≡ Some o
+  pub sender : from ≡ party.Psp (asked o.terms)
+  pub receiver : to ≡ party.Switch
+  pub told : is_some (outcome_of S t h) ≡ true
+
+abbrev pub BackedBy : List SetupLine → List Entry → Party → Party → Body → Type 0
+BackedBy S h from to (body.ReqAuth q) = IsQuestion S h from to q
+BackedBy S h from to (body.RespAuth t amount word) = IsModelAnswer S h from to t amount word
+BackedBy S h from to (body.Order t l amount ac addr) = IsOrder S h from to t l amount ac addr
+BackedBy S h from to (body.LegAnswer t l a) = answer S h t l ≡ Some a
+BackedBy S h from to (body.Result t k x m) = IsResult S h from to t k x m
+BackedBy S h from to (body.Confirm t k x) = IsConfirmation S h from to t k x
+BackedBy S h from to (body.Confirmed t) = IsConfirmed S h from to t
+
+-- what stands behind a message of a history: it asks, orders, answers or tells what the history has
+abbrev pub Backed : List SetupLine → List Entry → Sent → Type 0
+Backed S h s = BackedBy S h s.from s.to s.body
+
+abbrev pub AllBacked : List SetupLine → List Entry → List Sent → Type 0
+AllBacked S h messages = AllByRecursion (λ (s : Sent). Backed S h s) messages
+
+-- each message of a legal history is backed by the history
+abbrev pub MessagesBacked : Type 0
+MessagesBacked = (S : List SetupLine) (h : List Entry) → Legal S h → AllBacked S h (sent h)
+
+-- the same, of message n
+abbrev pub MessageBacked : Type 0
+MessageBacked = (S : List SetupLine) (h : List Entry) (n : ℕ) (s : Sent) → Legal S h → message_at h n ≡ Some s → Backed S h s
+
+-- and each is backed by the history as it is when it is sent
+abbrev pub BackedWhenSent : Type 0
+BackedWhenSent = (S : List SetupLine) (later : List Entry) (e : Entry) (before : List Entry) → Legal S (later ++ e ∷ before) → AllBacked S (e ∷ before) e.sent
+
+-- which outcome a message tells of the transaction, if it tells one
+abbrev pub outcome_in : List ℕ → Body → Option Outcome
+outcome_in t (body.Result t' k x m) = when (bytes_eq t' t) x
+outcome_in t (body.Confirm t' k x) = when (bytes_eq t' t) x
+outcome_in t _ = None
+
+-- which status the reply to an event gives of the transaction, if it gives one
+abbrev pub status_in : List ℕ → Reply → Event → Option (Option Outcome)
+status_in t (reply.Status x) (event.Heard p (said.Check t')) = when (bytes_eq t' t) x
+status_in t _ _ = None
+
+-- a status is the reply to a check
+abbrev pub IsOfCheck : Reply → Event → Type 0
+IsOfCheck (reply.Status x) (event.Heard p (said.Check t)) = Unit {0}
+IsOfCheck (reply.Status x) _ = ⊥
+IsOfCheck _ _ = Unit {0}
+
+-- each message that tells an outcome of the transaction tells this one
+abbrev pub AllTell : List ℕ → Option Outcome → List Sent → Type 0
+AllTell t stands messages = AllByRecursion (λ (s : Sent). (x : Outcome) → outcome_in t s.body ≡ Some x → stands ≡ Some x) messages
+
+-- What an entry tells of the transaction's outcome: what then stands, be it an outcome or none. A check brings no outcome.
+pub record EntryTells (S : List SetupLine) (t : List ℕ) (before : List Entry) (e : Entry) : Type 0 where
+  pub checked : IsOfCheck e.reply (event_of before e.call)
+  pub stood : (x : Option Outcome) → status_in t e.reply (event_of before e.call) ≡ Some x → x ≡ outcome_of S t before
+  pub status : (x : Option Outcome) → status_in t e.reply (event_of before e.call) ≡ Some x → x ≡ outcome_of S t (e ∷ before)
+  pub messages : AllTell t (outcome_of S t (e ∷ before)) e.sent
+
+abbrev pub OutcomeTold : Type 0
+OutcomeTold = (S : List SetupLine) (t : List ℕ) (later : List Entry) (e : Entry) (before : List Entry) → Legal S (later ++ e ∷ before) → EntryTells S t before e
