@@ -2,6 +2,7 @@
 use Rattle.std.proofs.Common.{◌≡◌, ℕ, zero, suc, ◌-◌, ◌+◌, ◌<◌, ◌≤◌, List, [], ◌∷◌, ◌++◌, length, get_or, take, drop, refl, sym, ◌∙◌, ap, arith, append_assoc, append-nil}
 use Rattle.std.specs.Prelude.{slice_get, reverse}
 use Rattle.std.proofs.lemmas.List.{drop_more, reverse-append}
+use Rattle.std.proofs.lemmas.Bool.Decides.{nat_tests}
 use Rattle.upi_base.specs.declared.entry.Entry.{Entry}
 use Rattle.upi_base.specs.declared.sent.Sent.{Sent}
 use Rattle.upi_laws.specs.History.{sent, numbered}
@@ -38,4 +39,4 @@ there xs i x k lt is le = sym (ap (λ (l : List Sent). slice_get l k) (sent_drop
 
 pub numbered_at : (messages : List Sent) (n : ℕ) → (n ≡ 0 → ⊥) → numbered messages n ≡ slice_get messages (n - 1)
 numbered_at messages zero h = absurd (h refl)
-numbered_at messages (suc k) h = refl
+numbered_at messages (suc k) h = grind (arith, nat_tests)

@@ -1,7 +1,7 @@
 -- What was found in a history, in lists.
-use Rattle.std.specs.Prelude.{ℕ, ◌≡◌, ◌+◌, ◌-◌, Bool, if◌then◌else◌, List, [], ◌∷◌, map, reverse, Option, Some, None, is_some}
+use Rattle.std.specs.Prelude.{ℕ, ◌≡◌, ◌+◌, ◌-◌, Bool, false, if◌then◌else◌, List, [], ◌∷◌, map, reverse, Option, Some, None, is_some}
 use Rattle.std.specs.Option.{option_or, option_map}
-use Rattle.std.specs.List.{sum_by}
+use Rattle.std.specs.List.{sum_by, count_by}
 use Rattle.upi_base.specs.declared.entry.Entry.{Entry}
 use Rattle.upi_base.specs.declared.code.Leg.{Leg}
 use Rattle.upi_base.specs.declared.code.Leg.TheVariants as leg
@@ -18,11 +18,12 @@ use Rattle.upi_laws.specs.declared.places.Opening.{Opening}
 use Rattle.upi_laws.specs.declared.places.Decision.{Decision}
 use Rattle.upi_laws.specs.declared.places.LegEnd.{LegEnd}
 use Rattle.upi_laws.specs.declared.places.LegEnd.TheVariants as ended
-use Rattle.upi_laws.specs.History.{is_closed, event_of, is_close}
-use Rattle.upi_laws.specs.Places.{has_id, opened, opens, decision, decides, debit, credit, reversal, ends, due_debit, due_credit, cause_by, reverses}
-use Rattle.upi_laws.specs.Outcomes.{outcome_by}
+use Rattle.upi_laws.specs.History.{is_closed, sent}
+use Rattle.upi_laws.specs.Places.{has_id, opened, opening, opens, decision, decides, debit, credit, reversal, ends, due_debit, due_credit, cause_by, reverses}
+use Rattle.upi_laws.specs.Outcomes.{outcome_by, outcome_of}
 use Rattle.upi_laws.specs.Postings.{answer, arrives, reversal_due_by, share, post_debit, post_credit, post_reversal}
-use Rattle.upi_laws.specs.Dues.{acknowledged, acknowledges}
+use Rattle.upi_laws.specs.Dues.{acknowledged, acknowledges, orders, confirms, last_sent, due_confirm, due_leg, due_by, due}
+use Rattle.upi_laws.specs.Replies.{order_answer}
 use Rattle.upi_replay.specs.declared.rows.Row.{Row}
 use Rattle.upi_replay.specs.declared.found.Found.{Found}
 
@@ -157,3 +158,29 @@ past entries = reverse entries
 pub record IsFound (S : List SetupLine) (h : List Entry) (f : Found) : Type 0 where
   pub rows : f.rows.items ≡ rows_of S h
   pub closed : f.closed ≡ is_closed h
+
+-- when the confirmation of a row is due again
+abbrev pub row_confirm_due : List Entry → Row → Option ℕ
+row_confirm_due h r = due_confirm (count_by (confirms r.opening.terms.txn) (sent h)) (last_sent (confirms r.opening.terms.txn) h) r.acknowledged
+
+-- when a leg of a row is due, or the reversal that is awaited
+abbrev pub row_leg_due : List Entry → Row → Option ℕ
+row_leg_due h r = due_leg r.decision r.debit (cause_by r.debit r.credit) (last_sent (orders r.opening.terms.txn leg.Reversal) h)
+
+-- when the transaction of a row is due, after a history that isn't closed
+abbrev pub row_due : List Entry → Row → Option ℕ
+row_due h r = due_by (Some r.opening) (row_outcome r) r.decision r.debit (cause_by r.debit r.credit) (last_sent (orders r.opening.terms.txn leg.Reversal) h) (row_confirm_due h r)
+
+abbrev pub due_in : List Entry → Option Row → Option ℕ
+due_in h None = None
+due_in h (Some r) = row_due h r
+
+-- a row, if there is one, says what the history has of the transaction
+pub record Says (S : List SetupLine) (h : List Entry) (t : List ℕ) (r : Option Row) : Type 0 where
+  pub opening : opening_in r ≡ opening S t h
+  pub decision : decision_in r ≡ decision S t h
+  pub debit : debit_in r ≡ debit S t h
+  pub credit : credit_in r ≡ credit S t h
+  pub outcome : outcome_in r ≡ outcome_of S t h
+  pub order : (l : Leg) → order_answer_in S (rows_of S h) r l ≡ order_answer S h t l
+  pub due : is_closed h ≡ false → due_in h r ≡ due S t h

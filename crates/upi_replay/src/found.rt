@@ -103,12 +103,13 @@ fn rows_after(
     Ok(after)
 }
 
-fn is_close(call: &Call) -> bool
-    ensures { result ≡ is_close_of call.now }
+/// Whether the switch is closed after a call.
+fn is_closed_by(call: &Call, closed: bool) -> bool
+    ensures { result ≡ (is_close_of call.now || closed) }
 {
     match call {
         Call::Close => true,
-        _ => false,
+        _ => closed,
     }
 }
 
@@ -139,10 +140,8 @@ impl Found {
         ensures { IfOk result (λ f. (e : AnEntry) → e.call ≡ call.now → e.at ≡ now → IsFound setup.now (e ∷ past before.now) f) }
     {
         let event = event_of(before, call);
+        let closed = is_closed_by(call, self.closed);
         let rows = rows_after(alloc, setup, &self.rows, self.closed, &event, now)?;
-        Ok(Found {
-            rows,
-            closed: is_close(call) || self.closed,
-        })
+        Ok(Found { rows, closed })
     }
 }

@@ -2,6 +2,7 @@
 //! what it has found in lists.
 #![tactic(auto)]
 
+pub mod dues;
 pub mod events;
 pub mod found;
 pub mod places;
