@@ -83,11 +83,37 @@ pub struct Account {
     pub no_credit: bool,
 }
 
+impl Account {
+    /// The same account.
+    pub fn copy(&self) -> Account
+        ensures { result ≡ self.now }
+    {
+        Account {
+            ac: self.ac.copy(),
+            opening: self.opening,
+            no_debit: self.no_debit,
+            no_credit: self.no_credit,
+        }
+    }
+}
+
 /// What a setup gives for an address: its account, and how its model PSP answers.
 #[derive(Clone, Drop, PartialEq, Eq)]
 pub struct Listing {
     pub ac: AccountRef,
     pub policy: Policy,
+}
+
+impl Listing {
+    /// The same listing.
+    pub fn copy(&self) -> Listing
+        ensures { result ≡ self.now }
+    {
+        Listing {
+            ac: self.ac.copy(),
+            policy: self.policy,
+        }
+    }
 }
 
 /// The lines of a setup, in order.
@@ -106,7 +132,7 @@ impl Model for SetupLines {
 }
 
 impl SetupLines {
-    ghost use Rattle.std.specs.Prelude.{◌≡◌, ◌++◌, ◌∷◌, [], OnOk, OnErr};
+    ghost use Rattle.std.specs.Prelude.{◌≡◌, ◌++◌, ◌∷◌, [], IfOk, OnOk, OnErr};
 
     /// No lines.
     pub fn new(alloc: Global) -> SetupLines
@@ -122,6 +148,17 @@ impl SetupLines {
         ensures { result ≡ items.items }
     {
         SetupLines { items }
+    }
+
+    /// The same lines. It fails only for want of memory.
+    pub fn copy(&self, alloc: Global) -> Result<SetupLines, NoMemory>
+        ensures { IfOk result (λ x. x ≡ self.now) }
+    {
+        let mut items = Vec::new(alloc);
+        for line in &self.items {
+            items.push(line.copy())?;
+        }
+        Ok(SetupLines { items })
     }
 
     /// The lines as a slice.
@@ -153,4 +190,16 @@ impl SetupLines {
 pub struct Setup {
     pub start: Moment,
     pub lines: SetupLines,
+}
+
+impl Setup {
+    /// The same setup. It fails only for want of memory.
+    pub fn copy(&self, alloc: Global) -> Result<Setup, NoMemory>
+        ensures { IfOk result (λ x. x ≡ self.now) }
+    {
+        Ok(Setup {
+            start: self.start,
+            lines: self.lines.copy(alloc)?,
+        })
+    }
 }
