@@ -193,9 +193,15 @@ impl Message {
     {
         match self {
             Message::Pay(request) => Ok(Message::Pay(Boxed::new(alloc, request.get().copy())?)),
-            Message::AuthAnswer(answer) => Ok(Message::AuthAnswer(Boxed::new(alloc, answer.get().copy())?)),
+            Message::AuthAnswer(answer) => Ok(Message::AuthAnswer(Boxed::new(
+                alloc,
+                answer.get().copy(),
+            )?)),
             Message::Check(question) => Ok(Message::Check(question.copy())),
-            Message::Confirmed(answer) => Ok(Message::Confirmed(Boxed::new(alloc, answer.get().copy())?)),
+            Message::Confirmed(answer) => Ok(Message::Confirmed(Boxed::new(
+                alloc,
+                answer.get().copy(),
+            )?)),
             Message::Foreign { api, head } => Ok(Message::Foreign {
                 api: *api,
                 head: head.copy(),
