@@ -1,3 +1,4 @@
 pub mod Utf8
 pub mod Digits
 pub mod Dates
+pub mod Hashes

@@ -4,3 +4,4 @@ pub mod Money
 pub mod Time
 pub mod Setup
 pub mod Shards
+pub mod Accounts

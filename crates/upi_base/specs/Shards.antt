@@ -19,3 +19,8 @@ account_text ac = ac.bank ++ 47 ∷ ac.num
 
 abbrev pub account_shard : AccountRef → ℕ
 account_shard ac = shard (account_text ac)
+
+-- the number of which a text's shard is the rest by sixteen
+abbrev pub hash_after : ℕ → List ℕ → ℕ
+hash_after h [] = h
+hash_after h (b ∷ bs) = hash_after ((131 * h + b) % 65_521) bs

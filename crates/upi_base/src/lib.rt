@@ -18,6 +18,7 @@ pub mod rules;
 pub mod sent;
 pub mod settled;
 pub mod setup;
+pub mod shards;
 pub mod text;
 
 pub use boxed::Boxed;
@@ -37,6 +38,7 @@ pub use rules::{
 pub use sent::{AuthQuestion, Body, Party, Sent, SentList};
 pub use settled::{AuditWhy, Item, Position, Recon, Side, TxnRow, Verdict};
 pub use setup::{Account, AccountRef, Listing, Setup, SetupLine, SetupLines};
+pub use shards::{account_shard, txn_shard};
 pub use text::{Rule, Text};
 
 /// The name of a transaction (`Txn.id`): 1 to 35 letters, digits, `-`, `.` or `_`.

@@ -1,5 +1,7 @@
 //! The setup: banks, PSPs, accounts and addresses.
-ghost use Rattle.std.specs.Prelude.{◌≡◌, IfOk};
+ghost use Rattle.std.specs.Prelude.{◌≡◌, ◌++◌, IfOk, OnOk, OnErr};
+ghost use Rattle.upi_base.specs.Shards.{account_text};
+ghost use Rattle.upi_base.specs.Accounts.{account_of};
 
 use crate::code::Policy;
 use crate::fault::NoMemory;
@@ -26,6 +28,34 @@ impl AccountRef {
             num: self.num.copy(),
         }
     }
+
+    /// The account that a text names, if it is the code of a bank, `/`, and the number of an
+    /// account.
+    pub fn read(text: &[u8]) -> Option<AccountRef>
+        ensures { result ≡ account_of text.now }
+    {
+        if text.len() < 5 || text[4] != b'/' {
+            return None;
+        }
+        let bank = BankCode::read(&text[..4])?;
+        let num = AcNum::read(&text[5..])?;
+        Some(AccountRef { bank, num })
+    }
+}
+
+/// Appends an account as it is written: its bank, `/`, its number. It fails only for want of
+/// memory, and then changes nothing.
+pub fn write_account(ac: &AccountRef, out: &mut Vec<u8>) -> Result<(), NoMemory>
+    ensures ok { OnOk result (out.new.items ≡ out.old.items ++ account_text ac.now) }
+    ensures err { OnErr result (out.new.items ≡ out.old.items) }
+{
+    let bank = ac.bank.bytes();
+    let num = ac.num.bytes();
+    out.reserve(bank.len() + 1 + num.len())?;
+    out.extend_from_slice(bank)?;
+    out.extend_from_slice(b"/")?;
+    out.extend_from_slice(num)?;
+    Ok(())
 }
 
 /// A line of a setup.
