@@ -2,3 +2,4 @@ pub mod Utf8
 pub mod Digits
 pub mod Dates
 pub mod Hashes
+pub mod Civils
