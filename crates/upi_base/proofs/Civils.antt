@@ -1,6 +1,5 @@
 -- Counting days from 1 January 1970 gives jiff's dates.
-use Rattle.std.proofs.Common.{◌≡◌, ℕ, zero, suc, ◌+◌, ◌-◌, ◌*◌, ◌<◌, ◌≤◌, Bool, true, false, nat_lt, ℤ, pos, ◌+ℤ◌, ◌-ℤ◌, ◌<ℤ◌, ◌≤ℤ◌, if◌then◌else◌, refl, sym, ◌∙◌, ap, arith, ◌⊎◌, inl, inr}
-use Rattle.std.specs.Int.{IsInRange}
+use Rattle.std.proofs.Common.{◌≡◌, ℕ, zero, suc, ◌+◌, ◌≤◌, Bool, true, false, nat_lt, ℤ, pos, if◌then◌else◌, refl, sym, ◌∙◌, ap, arith, inl, inr}
 use Rattle.std.proofs.lemmas.Bool.{cases_order}
 use Rattle.std.proofs.lemmas.Bool.Decides.{nat_tests}
 use Rattle.std.proofs.lemmas.Int.{by_lt_z}
@@ -40,12 +39,12 @@ next_month n y m d ends more h =
     let last = month_ends y m d ends h.last in
     let long = days_in_month_bounds (pos y) (m + 1) in
     record {
-  least = omega arith;
-  most = grind (arith, nat_tests);
-  first = omega arith;
-  last = omega arith;
-  count = omega (arith, h.count, last, day_count-day (pos y) m d 1 h.first (omega arith), day_count-next_month (pos y) m h.least);
-}
+      least = omega arith;
+      most = grind (arith, nat_tests);
+      first = omega arith;
+      last = omega arith;
+      count = omega (arith, h.count, last, day_count-day (pos y) m d 1 h.first (omega arith), day_count-next_month (pos y) m h.least);
+    }
 
 twelve : (m : ℕ) → m ≤ 12 → nat_lt m 12 ≡ false → m ≡ 12
 twelve m most ends = grind (arith, nat_tests)
@@ -57,12 +56,12 @@ next_year n y m d ends done h =
     let long : days_in_month (pos y) m ≡ 31 = ap (λ k. days_in_month (pos y) k) december in
     let count : day_count (pos y) 12 31 ≡ 4_371_953 + n = ap (λ k. day_count (pos y) k 31) (sym december) ∙ (ap (λ k. day_count (pos y) m k) (sym (last ∙ long)) ∙ h.count) in
     record {
-  least = omega arith;
-  most = omega arith;
-  first = omega arith;
-  last = omega arith;
-  count = omega (arith, count, day_count-last_of_year (pos y), day_count-next_year (pos y) (pos (y + 1)) (omega (arith, signed_arith)) (omega (arith, signed_arith)));
-}
+      least = omega arith;
+      most = omega arith;
+      first = omega arith;
+      last = omega arith;
+      count = omega (arith, count, day_count-last_of_year (pos y), day_count-next_year (pos y) (pos (y + 1)) (omega (arith, signed_arith)) (omega (arith, signed_arith)));
+    }
 
 after : (n : ℕ) (c : Civil) → IsNthCivil n c → IsNthCivil (suc n) (day_after c)
 after n c h = go (nat_lt c.day (days_in_month (pos c.year) c.month)) refl (nat_lt c.month 12) refl

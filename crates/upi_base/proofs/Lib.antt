@@ -3,3 +3,4 @@ pub mod Digits
 pub mod Dates
 pub mod Hashes
 pub mod Civils
+pub mod Stamps
