@@ -156,3 +156,131 @@ account_name (l ∷ ls) ac a h = elim (or_cases (account_in ac l) (account_named
     line_name (line.Account given opening no_debit no_credit) e =
         let found = when_true (same_account given ac) (record { ac = given; opening = opening; no_debit = no_debit; no_credit = no_credit }) a e in
         ap (λ (k : Account). k.ac) (sym found.1) ∙ same_account_is given ac found.0
+
+accounts-append : (xs ys : List SetupLine) → accounts (xs ++ ys) ≡ accounts xs ++ accounts ys
+accounts-append [] ys = refl
+accounts-append (x ∷ xs) ys = ap (λ l. line_accounts x ++ l) (accounts-append xs ys) ∙ sym (append_assoc (line_accounts x) (accounts xs) (accounts ys))
+
+accounts-push : (S : List SetupLine) (x : SetupLine) → accounts (S ++ x ∷ []) ≡ accounts S ++ line_accounts x
+accounts-push S x = accounts-append S (x ∷ []) ∙ ap (λ l. accounts S ++ l) (append-nil (line_accounts x))
+
+-- a line that names an account finds no such account before it
+line_fresh : (S : List SetupLine) (x : SetupLine) → setup_fault S x ≡ None → (ac : AccountRef) (a : Account) → account_in ac x ≡ Some a → (account_named S ac ≡ None) × (has_bank S ac.bank ≡ true)
+line_fresh S (line.Bank b) free ac a e = absurd cc
+line_fresh S (line.Psp p) free ac a e = absurd cc
+line_fresh S (line.Address addr given policy) free ac a e = absurd cc
+line_fresh S (line.Account given opening no_debit no_credit) free ac a e =
+    let fits = account_fits S given opening no_debit no_credit free in
+    let found = when_true (same_account given ac) (record { ac = given; opening = opening; no_debit = no_debit; no_credit = no_credit }) a e in
+    let name = same_account_is given ac found.0 in
+    (ap (λ k. account_named S k) (sym name) ∙ fits.fresh, ap (λ (k : AccountRef). has_bank S k.bank) (sym name) ∙ fits.bank)
+
+abbrev Banked : List SetupLine → Type 0
+Banked S = (ac : AccountRef) (a : Account) → account_named S ac ≡ Some a → has_bank S ac.bank ≡ true
+
+banked_step : (S : List SetupLine) (x : SetupLine) → Banked S → setup_fault S x ≡ None → Banked (S ++ x ∷ [])
+banked_step S x old free ac a e =
+    let there = elim (or_cases (account_named S ac) (account_in ac x) a (sym (pick-push (account_in ac) S x) ∙ e)) as (λ _. has_bank S ac.bank ≡ true) [ inl was ↦ old ac a was | inr new ↦ (line_fresh S x free ac a new.1).1 ] in
+    bank_stays S x ac.bank there
+
+pub banked : (S : List SetupLine) → is_setup S ≡ true → Banked S
+banked S h = kept_by_setup Banked banked_step (λ ac a e. absurd cc) S h
+
+-- each account is there once
+
+line_count : (x : SetupLine) (ac : AccountRef) → count_by (λ (b : Account). same_account b.ac ac) (line_accounts x) ≡ cond (is_some (account_in ac x)) 1 0
+line_count (line.Bank b) ac = refl
+line_count (line.Psp p) ac = refl
+line_count (line.Address addr given policy) ac = refl
+line_count (line.Account given opening no_debit no_credit) ac =
+    sum_by-cons (λ (b : Account). cond (same_account b.ac ac) 1 0) (record { ac = given; opening = opening; no_debit = no_debit; no_credit = no_credit }) [] ∙ go (same_account given ac)
+  where
+    go : (b : Bool) → cond b 1 0 + 0 ≡ cond (is_some {T = Account} (when {X = Account} b (record { ac = given; opening = opening; no_debit = no_debit; no_credit = no_credit }))) 1 0
+    go true = refl
+    go false = refl
+
+one_of : (n k : ℕ) (o p r : Option Account) → n ≡ cond (is_some o) 1 0 → k ≡ cond (is_some p) 1 0 → r ≡ option_or o p → ((a : Account) → p ≡ Some a → o ≡ None) → n + k ≡ cond (is_some r) 1 0
+one_of n k None None r en ek er fresh = rw (en, ek, er) refl
+one_of n k None (Some b) r en ek er fresh = rw (en, ek, er) refl
+one_of n k (Some a) None r en ek er fresh = rw (en, ek, er) refl
+one_of n k (Some a) (Some b) r en ek er fresh = absurd (cc (fresh b refl))
+
+abbrev Once : List SetupLine → Type 0
+Once S = (ac : AccountRef) → count_by (λ (b : Account). same_account b.ac ac) (accounts S) ≡ cond (is_some (account_named S ac)) 1 0
+
+once_step : (S : List SetupLine) (x : SetupLine) → Once S → setup_fault S x ≡ None → Once (S ++ x ∷ [])
+once_step S x old free ac =
+    ap (λ l. count_by (λ (b : Account). same_account b.ac ac) l) (accounts-push S x)
+    ∙ (sum_by-append (λ (b : Account). cond (same_account b.ac ac) 1 0) (accounts S) (line_accounts x)
+    ∙ one_of (count_by (λ (b : Account). same_account b.ac ac) (accounts S)) (count_by (λ (b : Account). same_account b.ac ac) (line_accounts x)) (account_named S ac) (account_in ac x) (account_named (S ++ x ∷ []) ac)
+    (old ac) (line_count x ac) (pick-push (account_in ac) S x) (λ a e. (line_fresh S x free ac a e).0))
+
+once_in : (S : List SetupLine) → is_setup S ≡ true → Once S
+once_in S h = kept_by_setup Once once_step (λ ac. refl) S h
+
+pub account_once : (S : List SetupLine) → is_setup S ≡ true → (ac : AccountRef) (a : Account) → account_named S ac ≡ Some a → count_by (λ (b : Account). same_account b.ac ac) (accounts S) ≡ 1
+account_once S h ac a e = once_in S h ac ∙ ap (λ o. cond (is_some o) 1 0) e
+
+-- each account is found by its name
+
+all_both : (P Q R : Account → Type 0) → ((a : Account) → P a → R a) → ((a : Account) → Q a → R a) → (xs ys : List Account) → AllByRecursion P xs → AllByRecursion Q ys → AllByRecursion R (xs ++ ys)
+all_both P Q R f g [] [] p q = tt
+all_both P Q R f g [] (y ∷ ys) p q = (g y q.0, all_both P Q R f g [] ys tt q.1)
+all_both P Q R f g (x ∷ xs) ys p q = (f x p.0, all_both P Q R f g xs ys p.1 q)
+
+abbrev Named : List SetupLine → Type 0
+Named S = AllByRecursion (IsNamed S) (accounts S)
+
+line_named : (S : List SetupLine) (x : SetupLine) → setup_fault S x ≡ None → AllByRecursion (λ (a : Account). account_named (S ++ x ∷ []) a.ac ≡ Some a) (line_accounts x)
+line_named S (line.Bank b) free = tt
+line_named S (line.Psp p) free = tt
+line_named S (line.Address addr ac policy) free = tt
+line_named S (line.Account ac opening no_debit no_credit) free =
+    let fits = account_fits S ac opening no_debit no_credit free in
+    let x = line.Account ac opening no_debit no_credit in
+    let self : account_in ac x ≡ Some (record { ac = ac; opening = opening; no_debit = no_debit; no_credit = no_credit }) = ap (λ b. when b (record { ac = ac; opening = opening; no_debit = no_debit; no_credit = no_credit })) (same_account_self ac) in
+    (pick-push (account_in ac) S x ∙ (or_none (account_named S ac) (account_in ac x) fits.fresh ∙ self), tt)
+
+named_stays : (S : List SetupLine) (x : SetupLine) (a : Account) → IsNamed S a → IsNamed (S ++ x ∷ []) a
+named_stays S x a h = account_stays S x a.ac (some_is (account_named S a.ac) a h) ∙ h
+
+named_step : (S : List SetupLine) (x : SetupLine) → Named S → setup_fault S x ≡ None → Named (S ++ x ∷ [])
+named_step S x old free =
+    subst (λ l. AllByRecursion (IsNamed (S ++ x ∷ [])) l) (sym (accounts-push S x))
+    (all_both (IsNamed S) (IsNamed (S ++ x ∷ [])) (IsNamed (S ++ x ∷ [])) (named_stays S x) (λ a h. h) (accounts S) (line_accounts x) old (line_named S x free))
+
+pub named : (S : List SetupLine) → is_setup S ≡ true → Named S
+named S h = kept_by_setup Named named_step tt S h
+
+pub accepted_are_sound : AcceptedAreSound
+accepted_are_sound S h = record {
+  account_there = λ addr l e. (addressed S h addr l e).0;
+  psp_there = λ addr l e. (addressed S h addr l e).1;
+  bank_there = banked S h;
+  account_once = account_once S h;
+  named = named S h;
+}
+
+-- what accounts open with
+
+line_opens : (x : SetupLine) → OpensWithin x → (ac : AccountRef) (a : Account) → account_in ac x ≡ Some a → a.opening ≤ max_paise
+line_opens (line.Bank b) h ac a e = absurd cc
+line_opens (line.Psp p) h ac a e = absurd cc
+line_opens (line.Address addr given policy) h ac a e = absurd cc
+line_opens (line.Account given opening no_debit no_credit) h ac a e =
+    let found = when_true (same_account given ac) (record { ac = given; opening = opening; no_debit = no_debit; no_credit = no_credit }) a e in
+    subst (λ (k : Account). k.opening ≤ max_paise) found.1 h
+
+pub account_opens : (S : List SetupLine) → AllByRecursion OpensWithin S → (ac : AccountRef) (a : Account) → account_named S ac ≡ Some a → a.opening ≤ max_paise
+account_opens [] h ac a e = absurd cc
+account_opens (x ∷ xs) h ac a e = elim (or_cases (account_in ac x) (account_named xs ac) a e) [ inl here ↦ line_opens x h.0 ac a here | inr later ↦ account_opens xs h.1 ac a later.1 ]
+
+line_all_open : (x : SetupLine) → OpensWithin x → AllByRecursion (λ (a : Account). a.opening ≤ max_paise) (line_accounts x)
+line_all_open (line.Bank b) h = tt
+line_all_open (line.Psp p) h = tt
+line_all_open (line.Address addr given policy) h = tt
+line_all_open (line.Account given opening no_debit no_credit) h = (h, tt)
+
+pub accounts_open : (S : List SetupLine) → AllByRecursion OpensWithin S → AllByRecursion (λ (a : Account). a.opening ≤ max_paise) (accounts S)
+accounts_open [] h = tt
+accounts_open (x ∷ xs) h = all_both (λ (a : Account). a.opening ≤ max_paise) (λ (a : Account). a.opening ≤ max_paise) (λ (a : Account). a.opening ≤ max_paise) (λ a p. p) (λ a p. p) (line_accounts x) (accounts xs) (line_all_open x h.0) (accounts_open xs h.1)
