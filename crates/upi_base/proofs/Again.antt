@@ -1,5 +1,5 @@
 -- What is written reads back.
-use Rattle.std.proofs.Common.{◌≡◌, ℕ, zero, suc, ◌+◌, ◌-◌, ◌*◌, ◌/◌, ◌%◌, ◌^◌, ◌<◌, ◌≤◌, Bool, true, false, ◌&&◌, cond, List, [], ◌∷◌, ◌++◌, length, take, drop, get_or, codes, Option, Some, None, ℤ, pos, ◌+ℤ◌, ◌-ℤ◌, ◌*ℤ◌, refl, sym, ap, subst, ◌∙◌, arith, leb, nat_lt, nat_le}
+use Rattle.std.proofs.Common.{◌≡◌, ℕ, ◌+◌, ◌-◌, ◌*◌, ◌/◌, ◌%◌, ◌^◌, ◌<◌, ◌≤◌, true, false, List, [], ◌∷◌, ◌++◌, length, take, drop, codes, Some, ℤ, pos, ◌+ℤ◌, ◌-ℤ◌, ◌*ℤ◌, refl, ap, ◌∙◌, arith, leb, nat_lt}
 use Rattle.std.specs.Int.{IsInRange}
 use Rattle.std.specs.List.{prefix_len}
 use Rattle.std.specs.Char.{is_ascii_digit}
@@ -10,10 +10,10 @@ use Rattle.std.proofs.lemmas.Int.{ints}
 use Rattle.std.proofs.lemmas.Fmt.{decimal_is_IsNumeral, decimal_nonempty, length-decimal-le}
 use Rattle.std.proofs.lemmas.Str.Parse.{digit_from_value}
 use Rattle.std.proofs.Math.Seq.{take-append_seam, drop-append_seam}
-use Rattle.jiff_core.specs.Calendar.{days_from_civil, days_in_month, IsDate}
+use Rattle.jiff_core.specs.Calendar.{days_from_civil, IsDate}
 use Rattle.jiff_core.proofs.CalendarLemmas.{days_in_month_bounds}
 use Rattle.upi_base.specs.Money.{max_paise, paise_within, cents_of, paise_of, paise_text, pair_text, PaiseReadsBack}
-use Rattle.upi_base.specs.Time.{max_moment, ◌>>=◌, has_shape, two_at, four_at, is_date, day_number, clock_of, civil_of, after_fraction, zone_of, moment_within, moment_of, Civil, civil_from, date_text, clock_text, local_second, moment_text, MomentReadsBack}
+use Rattle.upi_base.specs.Time.{max_moment, has_shape, two_at, four_at, day_number, clock_of, civil_of, after_fraction, zone_of, moment_of, civil_from, date_text, clock_text, local_second, MomentReadsBack}
 use Rattle.upi_base.proofs.Dates.{date_yes}
 use Rattle.upi_base.proofs.Civils.{IsNth, civil_nth, nth_civil, nth_days}
 

@@ -1,8 +1,8 @@
 -- What holds of a setup whose lines are accepted, one behind the other.
-use Rattle.std.proofs.Common.{◌≡◌, ℕ, ◌+◌, ◌≤◌, Bool, true, false, cond, not, ◌&&◌, ◌||◌, List, [], ◌∷◌, ◌++◌, Option, Some, None, refl, ap, sym, subst, ◌∙◌, arith, append_assoc, inl, inr, ◌⊎◌}
+use Rattle.std.proofs.Common.{◌≡◌, ℕ, ◌+◌, ◌≤◌, Bool, true, false, cond, not, ◌||◌, List, [], ◌∷◌, ◌++◌, Option, Some, None, refl, ap, sym, subst, ◌∙◌, append_assoc, inl, inr}
 use Rattle.std.specs.Prelude.{if◌then◌else◌, is_some, is_none}
 use Rattle.std.specs.Option.{option_or}
-use Rattle.std.specs.List.{list_any, count_by, sum_by, AllByRecursion}
+use Rattle.std.specs.List.{list_any, count_by, AllByRecursion}
 use Rattle.std.specs.Str.{bytes_eq}
 use Rattle.std.proofs.lemmas.Bool.{and_parts, and_from}
 use Rattle.std.proofs.lemmas.List.{append-nil}
@@ -15,10 +15,10 @@ use Rattle.upi_base.specs.declared.setup.Listing.{Listing}
 use Rattle.upi_base.specs.declared.setup.SetupLine.{SetupLine}
 use Rattle.upi_base.specs.declared.setup.SetupLine.TheVariants as line
 use Rattle.upi_base.specs.declared.fault.Why.{Why}
-use Rattle.upi_base.specs.Lists.{when, pick}
+use Rattle.upi_base.specs.Lists.{when}
 use Rattle.upi_base.specs.Money.{max_paise}
-use Rattle.upi_base.specs.Setup.{same_account, provider, names_bank, names_psp, account_in, listing_in, has_bank, has_psp, account_named, listing_at, setup_fault, accepts_from, is_setup, line_accounts, accounts, IsNamed, IsSound, AcceptedAreSound, SetupsExtend, OpensWithin}
-use Rattle.upi_base.proofs.Lists.{or_cases, or_stays, or_none, guarded, when_true, some_value, some_is, none_is, pick-push}
+use Rattle.upi_base.specs.Setup.{same_account, provider, names_bank, names_psp, account_in, listing_in, has_bank, has_psp, account_named, listing_at, setup_fault, accepts_from, is_setup, line_accounts, accounts, IsNamed, AcceptedAreSound, SetupsExtend, OpensWithin}
+use Rattle.upi_base.proofs.Lists.{or_cases, or_stays, or_none, when_true, some_value, some_is, none_is, pick-push}
 
 -- one line more
 
@@ -137,7 +137,7 @@ line_addressed S (line.Address given ac policy) free addr l e =
 
 addressed_step : (S : List SetupLine) (x : SetupLine) → Addressed S → setup_fault S x ≡ None → Addressed (S ++ x ∷ [])
 addressed_step S x old free addr l e =
-    let both = elim (or_cases (listing_at S addr) (listing_in addr x) l (sym (pick-push (listing_in addr) S x) ∙ e) ) as (λ _. (is_some (account_named S l.ac) ≡ true) × (has_psp S (provider addr) ≡ true)) [ inl was ↦ old addr l was | inr new ↦ line_addressed S x free addr l new.1 ] in
+    let both = elim (or_cases (listing_at S addr) (listing_in addr x) l (sym (pick-push (listing_in addr) S x) ∙ e)) as (λ _. (is_some (account_named S l.ac) ≡ true) × (has_psp S (provider addr) ≡ true)) [ inl was ↦ old addr l was | inr new ↦ line_addressed S x free addr l new.1 ] in
     (account_is_stays S x l.ac both.0, psp_stays S x (provider addr) both.1)
 
 pub addressed : (S : List SetupLine) → is_setup S ≡ true → Addressed S
