@@ -16,3 +16,6 @@ pub use source::{ReadAnswer, Source};
 pub use standard::{Reading, Writing};
 pub use status::Status;
 pub use words::Words;
+
+#[cfg(test)]
+mod tests;
