@@ -1,5 +1,5 @@
 -- A search for LF, as a count of the bytes before it.
-use Rattle.std.proofs.Common.{◌≡◌, ℕ, ◌<◌, ◌≤◌, true, false, not, eqb, List, length, get_or, Option, Some, None, inl, inr, ap, arith}
+use Rattle.std.proofs.Common.{◌≡◌, ℕ, true, not, eqb, List, length, get_or, Some, None, inl, inr, ap, arith}
 use Rattle.std.proofs.lemmas.Bool.{cases_Bool}
 use Rattle.std.proofs.lemmas.List.Sums.{prefix_len_is}
 use Rattle.memchr.specs.Find.{IsFirstByte, is_byte}

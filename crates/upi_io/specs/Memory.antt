@@ -1,5 +1,5 @@
 -- Sources and sinks over memory: what a call of one answers, and what it makes of it.
-use Rattle.std.specs.Prelude.{◌≡◌, ℕ, ◌+◌, ◌-◌, ◌^◌, ◌==◌, ◌||◌, Bool, true, nat_eq, nat_le, min, if◌then◌else◌, List, ◌++◌, length, take, drop}
+use Rattle.std.specs.Prelude.{ℕ, ◌-◌, ◌==◌, ◌||◌, Bool, true, nat_eq, nat_le, min, if◌then◌else◌, List, ◌++◌, length, take, drop}
 use Rattle.std.specs.List.{list_any}
 use Rattle.upi_io.specs.Faults.{next_count}
 use Rattle.upi_io.specs.declared.source.ReadAnswer.{ReadAnswer}

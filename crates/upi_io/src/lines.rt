@@ -231,9 +231,9 @@ pub struct LineReader {
 
 impl Model for LineReader {
     ghost use Rattle.std.specs.Prelude.{◌≤◌};
-    ghost use Rattle.upi_io.specs.Lines.{Reading, max_lines};
+    ghost use Rattle.upi_io.specs.Lines.{ReaderState, max_lines};
 
-    ghost Value = { Reading };
+    ghost Value = { ReaderState };
 
     ghost view = { λ r. record { held = r.held; lines = r.lines; fault = r.fault } };
 

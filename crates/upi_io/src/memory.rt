@@ -1,4 +1,4 @@
-//! A source and a sink over memory, for tests.
+//! A source and a sink over memory.
 ghost use Rattle.std.specs.Prelude.{◌≡◌, ◌<◌, ◌≤◌, ◌↔◌, ℕ, Some, Ok, [], IfOk, IsOk, length, take, drop, min, vec_len, vec_capacity, true, false};
 ghost use Rattle.upi_io.specs.Memory.{SourceState, SinkState, is_listed, read_answer, after_read, write_answer, after_write};
 ghost use Rattle.upi_io.specs.Faults.{next_count};
@@ -74,6 +74,8 @@ impl Source for MemSource {
         // It fails exactly at the calls listed, and gives no less than it may.
         ensures answer { result ≡ read_answer self.old (length buf.old) }
         ensures state { self.new ≡ after_read self.old result }
+        // Where no call is listed, none fails.
+        ensures never { self.old.fail_at ≡ [] → self.new.faults ≡ self.old.faults }
     {
         self.calls = self.calls.saturating_add(1);
         if self.fail_at.contains(&self.calls) {
@@ -177,6 +179,8 @@ impl Sink for MemSink {
         // It fails exactly at the calls listed and where its room is full, and takes no less than it may.
         ensures answer { result ≡ write_answer self.old bytes.now }
         ensures state { self.new ≡ after_write self.old bytes.now result }
+        // Where no call is listed and there is room, none fails.
+        ensures never { self.old.fail_at ≡ [] → length self.old.taken < self.old.room → self.new.faults ≡ self.old.faults }
     {
         self.calls = self.calls.saturating_add(1);
         let left = self.room - self.taken.len();
