@@ -5,7 +5,8 @@ use Rattle.std.proofs.lemmas.List.{length-append, take-append-drop, drop-drop}
 use Rattle.std.proofs.lemmas.List.Folds.{length-prefix_len}
 use Rattle.std.proofs.lemmas.List.Sums.{split_at_first, passes_at_first}
 use Rattle.std.specs.Io.KnownBytes.{prepend_known, append_known}
-use Rattle.upi_io.specs.Lines.{max_line, is_no_lf, line_len, TakesPart, Advances}
+use Rattle.upi_io.specs.Lines.{max_line, is_no_lf, line_len}
+use Rattle.upi_io.specs.Steps.{TakesPart, Advances}
 use Rattle.upi_io.specs.declared.lines.LineFault.{LineFault}
 use Rattle.upi_io.specs.declared.lines.LineFault.TheVariants.{TooLong, TooMany, ReadFault, NoMemory}
 use Rattle.upi_io.proofs.Raw.{len_more}

@@ -4,7 +4,8 @@ ghost use Rattle.std.specs.List.{prefix_len};
 ghost use Rattle.std.specs.Io.KnownBytes.{prepend_known};
 ghost use Rattle.upi_io.specs.Faults.{Rose};
 ghost use Rattle.upi_io.specs.Streams.{ReadCause, ended_after};
-ghost use Rattle.upi_io.specs.Lines.{Fills, line_len, max_line, max_lines, TakesPart, IsReady, Advances, LineCause, AnswersAhead, without_cr, ahead, count_after, fault_after};
+ghost use Rattle.upi_io.specs.Lines.{line_len, max_line, max_lines, LineCause, AnswersAhead, without_cr, ahead, count_after, fault_after};
+ghost use Rattle.upi_io.specs.Steps.{Fills, TakesPart, IsReady, Advances};
 
 use crate::source::{ReadAnswer, Source};
 use memchr::memchr;
