@@ -4,7 +4,7 @@ ghost use Rattle.std.specs.List.{prefix_len};
 ghost use Rattle.std.specs.Io.KnownBytes.{prepend_known};
 ghost use Rattle.upi_io.specs.Faults.{Rose};
 ghost use Rattle.upi_io.specs.Streams.{ReadCause, ended_after};
-ghost use Rattle.upi_io.specs.Lines.{line_len, max_line, max_lines, LineCause, AnswersAhead, without_cr, ahead, count_after, fault_after};
+ghost use Rattle.upi_io.specs.Lines.{line_len, max_line, max_lines, LineCause, IsNumbered, AnswersAhead, without_cr, ahead, count_after, fault_after};
 ghost use Rattle.upi_io.specs.Steps.{Fills, TakesPart, IsReady, Advances};
 
 use crate::source::{ReadAnswer, Source};
@@ -197,7 +197,7 @@ fn next_line<S: Source>(
     requires empty { line.old.items ≡ [] }
     ensures bytes { AnswersAhead lines (prepend_known held.old (S.left source.old)) (prepend_known held.new (S.left source.new)) line.new.items result }
     ensures cause { LineCause (S.faults source.old) (S.faults source.new) result }
-    ensures few { result ≡ Ok Line.Got → lines < max_lines }
+    ensures number { IsNumbered lines result }
     ensures ended { result ≡ Ok Line.End → S.ended source.new ≡ true }
     ensures none_held { result ≡ Ok Line.End → held.new ≡ [] }
 {
@@ -267,6 +267,7 @@ impl LineReader {
         ensures count { self.old.fault ≡ None → self.new.lines ≡ count_after self.old.lines result }
         ensures fault { self.old.fault ≡ None → self.new.fault ≡ fault_after result }
         ensures few { result ≡ Ok Line.Got → self.old.lines < max_lines }
+        ensures number { self.old.fault ≡ None → IsNumbered self.old.lines result }
         // The end comes only where the source answered that it has ended, and no byte is held.
         ensures ended { result ≡ Ok Line.End → S.ended source.new ≡ true }
         ensures none_held { result ≡ Ok Line.End → self.new.held ≡ [] }
