@@ -1,0 +1,27 @@
+-- Joining parts of a written message.
+use Rattle.std.proofs.Common.{◌≡◌, ℕ, zero, suc, ◌+◌, ◌<◌, true, false, List, [], ◌∷◌, ◌++◌, length, get_or, drop, Option, Some, None, refl, sym, ap, ◌∙◌, append_assoc, append-nil, arith}
+use Rattle.std.proofs.lemmas.List.{drop_more}
+use Rattle.json.specs.Print.{escape_byte, escape, quoted}
+use Rattle.serde_json.specs.Data.{Data, Members, member, object}
+use Rattle.serde_json.specs.Written.{compact_text, members_text}
+use Rattle.upi_msg.specs.Tree.{maybe}
+use Rattle.upi_msg.specs.Pieces.{front_text, later_text}
+
+pub escape-drop : (o t : List ℕ) (text : List ℕ) (i : ℕ) → i < length text → o ++ escape (drop i text) ≡ t → (o ++ escape_byte (get_or text i 0)) ++ escape (drop (i + 1) text) ≡ t
+escape-drop o t text i lt e =
+    append_assoc o (escape_byte (get_or text i 0)) (escape (drop (i + 1) text))
+    ∙ ap (λ (l : List ℕ). o ++ escape l) (sym (drop_more text i 0 lt))
+    ∙ e
+
+pub front : (k : List ℕ) (o : Option Data) (l : List ℕ) (d : Data) (ms : Members) → members_text false (maybe k o (member l d ms)) ≡ front_text k o ++ members_text false (member l d ms)
+front k None l d ms = refl
+front k (Some e) l d ms =
+    let rest : List ℕ = members_text true (member l d ms) in
+    append-step (quoted k) (compact_text e) (members_text false (member l d ms))
+  where
+    append-step : (q t r : List ℕ) → q ++ 58 ∷ (t ++ 44 ∷ r) ≡ (q ++ 58 ∷ (t ++ 44 ∷ [])) ++ r
+    append-step q t r = ap (λ x. q ++ 58 ∷ x) (sym (append_assoc t (44 ∷ []) r)) ∙ sym (append_assoc q (58 ∷ (t ++ 44 ∷ [])) r)
+
+pub later : (k : List ℕ) (o : Option Data) (ms : Members) → members_text true (maybe k o ms) ≡ later_text k o ++ members_text true ms
+later k None ms = refl
+later k (Some e) ms = ap (λ x. 44 ∷ x) (sym (append_assoc (quoted k) (58 ∷ compact_text e) (members_text true ms)))

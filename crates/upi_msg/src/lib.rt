@@ -1,0 +1,5 @@
+//! Messages as JSON: their one written form, and reading it back.
+#![tactic(auto)]
+
+mod quote;
+mod write;
