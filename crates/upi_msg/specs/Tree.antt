@@ -29,15 +29,15 @@ only name d = object (member name d no_members)
 abbrev pub single : Data → Data
 single d = array (item d no_items)
 
-abbrev pub moment_text : ℕ → List ℕ
+unfoldable pub moment_text : ℕ → List ℕ
 moment_text m = paise_text m
 
 -- the `Head` of a message
-abbrev pub head_tree : Head → Data
+unfoldable pub head_tree : Head → Data
 head_tree h = object (member (codes "msgId") (string h.msg_id) (member (codes "orgId") (string h.org) (member (codes "ts") (string (moment_text h.ts)) (member (codes "ver") (string (codes "1.0")) no_members))))
 
 -- an `Amount`
-abbrev pub amount_tree : ℕ → Data
+unfoldable pub amount_tree : ℕ → Data
 amount_tree v = object (member (codes "curr") (string (codes "INR")) (member (codes "value") (string (paise_text v)) no_members))
 
 -- a named value, as a `Detail` or a `Rule` has it
@@ -45,11 +45,11 @@ abbrev pub named_tree : List ℕ → List ℕ → Data
 named_tree name value = object (member (codes "name") (string name) (member (codes "value") (string value) no_members))
 
 -- an `Ac`: its IFSC is the bank's code and seven zeros
-abbrev pub account_tree : AccountRef → Data
+unfoldable pub account_tree : AccountRef → Data
 account_tree a = object (member (codes "Detail") (array (item (named_tree (codes "IFSC") (a.bank ++ codes "0000000")) (item (named_tree (codes "ACNUM") a.num) no_items))) (member (codes "addrType") (string (codes "ACCOUNT")) no_members))
 
 -- the `Rules` that give the minutes of a COLLECT
-abbrev pub rules_tree : ℕ → Data
+unfoldable pub rules_tree : ℕ → Data
 rules_tree minutes = only (codes "Rule") (single (named_tree (codes "EXPIREAFTER") (decimal minutes)))
 
 -- the word of a kind
@@ -58,7 +58,7 @@ kind_text kind.Pay = codes "PAY"
 kind_text kind.Collect = codes "COLLECT"
 
 -- a `Payer` with an address
-abbrev pub payer_tree : PayReq → Data
+unfoldable pub payer_tree : PayReq → Data
 payer_tree r = object (maybe (codes "Ac") (option_map account_tree r.payer_ac) (member (codes "Amount") (amount_tree r.amount) (member (codes "addr") (string r.payer) no_members)))
 
 -- `Payees`, of whom there is one
@@ -66,15 +66,15 @@ abbrev pub payees_tree : Data → Data
 payees_tree payee = only (codes "Payee") (single payee)
 
 -- the payee with an address
-abbrev pub payee_tree : PayReq → Data
+unfoldable pub payee_tree : PayReq → Data
 payee_tree r = object (maybe (codes "Ac") (option_map account_tree r.payee_ac) (member (codes "addr") (string r.payee) no_members))
 
 -- the `Txn` of a payment
-abbrev pub payment_tree : PayReq → Data
+unfoldable pub payment_tree : PayReq → Data
 payment_tree r = object (maybe (codes "Rules") (option_map rules_tree r.expire) (member (codes "id") (string r.txn) (maybe (codes "note") (option_map string r.note) (member (codes "type") (string (kind_text r.kind)) no_members))))
 
 -- the body of a `ReqPay`
-abbrev pub pay_tree : PayReq → Data
+unfoldable pub pay_tree : PayReq → Data
 pay_tree r = object (member (codes "Head") (head_tree r.head) (member (codes "Payees") (payees_tree (payee_tree r)) (member (codes "Payer") (payer_tree r) (member (codes "Txn") (payment_tree r) no_members))))
 
 -- the word of a yes or a no
@@ -83,15 +83,15 @@ result_text true = codes "SUCCESS"
 result_text false = codes "FAILURE"
 
 -- `Payees` of whom the account alone is known
-abbrev pub account_payees_tree : AccountRef → Data
+unfoldable pub account_payees_tree : AccountRef → Data
 account_payees_tree a = payees_tree (only (codes "Ac") (account_tree a))
 
 -- the `Payer` of an answer
-abbrev pub answer_payer_tree : AuthResp → Data
+unfoldable pub answer_payer_tree : AuthResp → Data
 answer_payer_tree a = object (maybe (codes "Ac") (option_map account_tree a.payer_ac) (member (codes "Amount") (amount_tree a.amount) no_members))
 
 -- the `Resp` of an answer
-abbrev pub resp_tree : AuthResp → Data
+unfoldable pub resp_tree : AuthResp → Data
 resp_tree a = object (member (codes "reqMsgId") (string a.req_msg) (member (codes "result") (string (result_text a.yes)) no_members))
 
 -- a `Txn` of which the id alone is known
@@ -99,15 +99,15 @@ abbrev pub id_tree : List ℕ → Data
 id_tree txn = only (codes "id") (string txn)
 
 -- the body of a `RespAuthDetails`
-abbrev pub answer_tree : AuthResp → Data
+unfoldable pub answer_tree : AuthResp → Data
 answer_tree a = object (member (codes "Head") (head_tree a.head) (maybe (codes "Payees") (option_map account_payees_tree a.payee_ac) (member (codes "Payer") (answer_payer_tree a) (member (codes "Resp") (resp_tree a) (member (codes "Txn") (id_tree a.txn) no_members)))))
 
 -- the body of a `ReqChkTxn`
-abbrev pub check_tree : Chk → Data
+unfoldable pub check_tree : Chk → Data
 check_tree k = object (member (codes "Head") (head_tree k.head) (member (codes "Txn") (id_tree k.txn) no_members))
 
 -- the body of a `RespTxnConfirmation`
-abbrev pub confirmed_tree : ConfResp → Data
+unfoldable pub confirmed_tree : ConfResp → Data
 confirmed_tree k = object (member (codes "Head") (head_tree k.head) (member (codes "Resp") (only (codes "reqMsgId") (string k.req_msg)) (member (codes "Txn") (id_tree k.txn) no_members)))
 
 -- the root name of a message that a PSP may not send

@@ -3,15 +3,30 @@ ghost use Rattle.std.specs.Prelude.{◌≡◌, ◌++◌, OnOk, OnErr, codes, str
 ghost use Rattle.serde_json.specs.Data.{string};
 ghost use Rattle.serde_json.specs.Written.{compact_text};
 ghost use Rattle.json.specs.Print.{quoted};
-ghost use Rattle.upi_msg.specs.Tree.{moment_text, head_tree, amount_tree, account_tree, rules_tree, account_payees_tree, payer_tree, payee_tree, payment_tree, pay_tree};
+ghost use Rattle.upi_msg.specs.Tree.{only, moment_text, kind_text, result_text, api_text, head_tree, amount_tree, account_tree, rules_tree, account_payees_tree, payer_tree, payee_tree, payment_tree, pay_tree, answer_payer_tree, resp_tree, answer_tree, check_tree, confirmed_tree, message_tree, message_text};
 ghost use Rattle.upi_base.specs.Money.{paise_text};
 ghost use Rattle.upi_msg.specs.Pieces.{front_text, later_text};
 
 use crate::quote::{push_escaped, push_quoted};
+use itoa::Buffer;
 use std::alloc::Global;
-use upi_base::{AccountRef, Head, Kind, Minutes, Moment, NoMemory, Note, Paise, PayReq};
+use upi_base::{
+    AccountRef, Api, AuthResp, Chk, ConfResp, Head, Kind, Message, Minutes, Moment, NoMemory, Note,
+    Paise, PayReq, Rule, Text,
+};
 
-// Appends these bytes, and a string of those.
+// Appends these bytes, and the string of a small text.
+fn push_text<R: Rule, const N: usize>(
+    out: &mut Vec<u8>,
+    before: &[u8],
+    text: &Text<R, N>,
+) -> Result<(), NoMemory>
+    ensures { OnOk result (out.new.items ≡ out.old.items ++ (before.now ++ quoted text.now)) }
+{
+    push_member(out, before, text.bytes())
+}
+
+// Appends these bytes, and the string of those.
 fn push_member(out: &mut Vec<u8>, before: &[u8], text: &[u8]) -> Result<(), NoMemory>
     ensures { OnOk result (out.new.items ≡ out.old.items ++ (before.now ++ quoted text.now)) }
 {
@@ -45,8 +60,8 @@ fn push_paise(out: &mut Vec<u8>, amount: Paise) -> Result<(), NoMemory>
 fn push_head(out: &mut Vec<u8>, head: &Head) -> Result<(), NoMemory>
     ensures { OnOk result (out.new.items ≡ out.old.items ++ compact_text (head_tree head.now)) }
 {
-    push_member(out, b"{\"msgId\":", head.msg_id.bytes())?;
-    push_member(out, b",\"orgId\":", head.org.bytes())?;
+    push_text(out, b"{\"msgId\":", &head.msg_id)?;
+    push_text(out, b",\"orgId\":", &head.org)?;
     out.extend_from_slice(b",\"ts\":")?;
     push_moment(out, head.ts)?;
     out.extend_from_slice(b",\"ver\":\"1.0\"}")?;
@@ -69,7 +84,114 @@ fn push_account(out: &mut Vec<u8>, ac: &AccountRef) -> Result<(), NoMemory>
 {
     out.extend_from_slice(b"{\"Detail\":[{\"name\":\"IFSC\",\"value\":\"")?;
     push_escaped(out, ac.bank.bytes())?;
-    push_member(out, b"0000000\"},{\"name\":\"ACNUM\",\"value\":", ac.num.bytes())?;
+    push_text(out, b"0000000\"},{\"name\":\"ACNUM\",\"value\":", &ac.num)?;
     out.extend_from_slice(b"}],\"addrType\":\"ACCOUNT\"}")?;
+    Ok(())
+}
+
+// Appends the account that a party may have, before its other members.
+fn push_ac_front(out: &mut Vec<u8>, ac: &Option<AccountRef>) -> Result<(), NoMemory>
+    ensures { OnOk result (out.new.items
+        ≡ out.old.items ++ front_text (codes "Ac") (option_map account_tree ac.now)) }
+{
+    if let Some(ac) = ac {
+        out.extend_from_slice(b"\"Ac\":")?;
+        push_account(out, ac)?;
+        out.push(b',')?;
+    }
+    Ok(())
+}
+
+// Appends the rules that a payment may have, before the other members of its `Txn`.
+fn push_rules_front(out: &mut Vec<u8>, expire: &Option<Minutes>) -> Result<(), NoMemory>
+    ensures { OnOk result (out.new.items
+        ≡ out.old.items ++ front_text (codes "Rules") (option_map rules_tree expire.now)) }
+{
+    if let Some(minutes) = expire {
+        let mut buffer = Buffer::new();
+        let count = buffer.format(minutes.get()).as_bytes();
+        push_member(
+            out,
+            b"\"Rules\":{\"Rule\":[{\"name\":\"EXPIREAFTER\",\"value\":",
+            count,
+        )?;
+        out.extend_from_slice(b"}]},")?;
+    }
+    Ok(())
+}
+
+// Appends the note that a payment may have.
+fn push_note(out: &mut Vec<u8>, note: &Option<Note>) -> Result<(), NoMemory>
+    ensures { OnOk result (out.new.items
+        ≡ out.old.items ++ later_text (codes "note") (option_map string note.now)) }
+{
+    if let Some(note) = note {
+        push_text(out, b",\"note\":", note)?;
+    }
+    Ok(())
+}
+
+// The word of a kind.
+fn kind_text(kind: Kind) -> &'static [u8]
+    ensures { result.now ≡ kind_text kind }
+{
+    match kind {
+        Kind::Pay => b"PAY",
+        Kind::Collect => b"COLLECT",
+    }
+}
+
+// Appends the `Payer` of a payment.
+fn push_payer(out: &mut Vec<u8>, request: &PayReq) -> Result<(), NoMemory>
+    ensures { OnOk result (out.new.items ≡ out.old.items ++ compact_text (payer_tree request.now)) }
+{
+    out.push(b'{')?;
+    push_ac_front(out, &request.payer_ac)?;
+    out.extend_from_slice(b"\"Amount\":")?;
+    push_amount(out, request.amount)?;
+    push_text(out, b",\"addr\":", &request.payer)?;
+    out.push(b'}')?;
+    Ok(())
+}
+
+// Appends the payee of a payment.
+fn push_payee(out: &mut Vec<u8>, request: &PayReq) -> Result<(), NoMemory>
+    ensures { OnOk result (out.new.items ≡ out.old.items ++ compact_text (payee_tree request.now)) }
+{
+    out.push(b'{')?;
+    push_ac_front(out, &request.payee_ac)?;
+    push_text(out, b"\"addr\":", &request.payee)?;
+    out.push(b'}')?;
+    Ok(())
+}
+
+// Appends the `Txn` of a payment.
+fn push_payment(out: &mut Vec<u8>, request: &PayReq) -> Result<(), NoMemory>
+    ensures { OnOk result (out.new.items
+        ≡ out.old.items ++ compact_text (payment_tree request.now)) }
+{
+    out.push(b'{')?;
+    push_rules_front(out, &request.expire)?;
+    push_text(out, b"\"id\":", &request.txn)?;
+    push_note(out, &request.note)?;
+    push_member(out, b",\"type\":", kind_text(request.kind))?;
+    out.push(b'}')?;
+    Ok(())
+}
+
+// Appends a `ReqPay`.
+pub(crate) fn push_pay(out: &mut Vec<u8>, request: &PayReq) -> Result<(), NoMemory>
+    ensures { OnOk result (out.new.items
+        ≡ out.old.items ++ compact_text (only (codes "ReqPay") (pay_tree request.now))) }
+{
+    out.extend_from_slice(b"{\"ReqPay\":{\"Head\":")?;
+    push_head(out, &request.head)?;
+    out.extend_from_slice(b",\"Payees\":{\"Payee\":[")?;
+    push_payee(out, request)?;
+    out.extend_from_slice(b"]},\"Payer\":")?;
+    push_payer(out, request)?;
+    out.extend_from_slice(b",\"Txn\":")?;
+    push_payment(out, request)?;
+    out.extend_from_slice(b"}}")?;
     Ok(())
 }
