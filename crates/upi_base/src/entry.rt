@@ -7,9 +7,10 @@ use crate::message::Input;
 use crate::moment::Moment;
 use crate::sent::SentList;
 use crate::{PspName, TxnId};
+use std::alloc::Global;
 
 /// A call on the switch. Sent messages are numbered from 1 in the order of the history.
-#[derive(Clone, Drop, PartialEq, Eq)]
+#[derive(Drop, PartialEq)]
 pub enum Call {
     /// A PSP sends something.
     Hear { psp: PspName, input: Input },
@@ -23,6 +24,24 @@ pub enum Call {
     Close,
 }
 
+impl Call {
+    /// The same call. It fails only for want of memory.
+    pub fn copy(&self, alloc: Global) -> Result<Call, NoMemory>
+        ensures { IfOk result (λ x. x ≡ self.now) }
+    {
+        match self {
+            Call::Hear { psp, input } => Ok(Call::Hear {
+                psp: psp.copy(),
+                input: input.copy(alloc)?,
+            }),
+            Call::Deliver(number) => Ok(Call::Deliver(*number)),
+            Call::Lose(number) => Ok(Call::Lose(*number)),
+            Call::Late(txn) => Ok(Call::Late(txn.copy())),
+            Call::Close => Ok(Call::Close),
+        }
+    }
+}
+
 /// An entry of the history: a call, its moment, its caller's number, the reply and what was sent.
 #[derive(Drop)]
 pub struct Entry {
@@ -31,6 +50,21 @@ pub struct Entry {
     pub caller: u64,
     pub reply: Reply,
     pub sent: SentList,
+}
+
+impl Entry {
+    /// The same entry. It fails only for want of memory.
+    pub fn copy(&self, alloc: Global) -> Result<Entry, NoMemory>
+        ensures { IfOk result (λ x. x ≡ self.now) }
+    {
+        Ok(Entry {
+            call: self.call.copy(alloc)?,
+            at: self.at,
+            caller: self.caller,
+            reply: self.reply,
+            sent: self.sent.copy(alloc)?,
+        })
+    }
 }
 
 /// The answer to an accepted call: the reply, and the place of its entry, counted from 1.

@@ -4,6 +4,7 @@
 //! or a number of minutes as a number.
 #![tactic(auto)]
 
+pub mod boxed;
 mod classes;
 pub mod code;
 pub mod directory;
@@ -15,9 +16,13 @@ pub mod moment;
 pub mod paise;
 pub mod rules;
 pub mod sent;
+pub mod settled;
 pub mod setup;
+pub mod shards;
+mod stamp;
 pub mod text;
 
+pub use boxed::Boxed;
 pub use code::{Answer, Code, Kind, Leg, Outcome, Policy, Reply};
 pub use directory::{
     account_at, account_named, has_bank, has_psp, listing_at, provider, setup_fault,
@@ -27,12 +32,14 @@ pub use fault::{NoMemory, Why};
 pub use message::{Api, AuthResp, BadMessage, Chk, ConfResp, Head, Input, Message, MsgWhy, PayReq};
 pub use minutes::Minutes;
 pub use moment::Moment;
-pub use paise::Paise;
+pub use paise::{Paise, write_number, write_sum};
 pub use rules::{
     AccountRule, AddressRule, BankRule, MessageRule, NoteRule, OrgRule, PathRule, PspRule, TxnRule,
 };
 pub use sent::{AuthQuestion, Body, Party, Sent, SentList};
-pub use setup::{Account, AccountRef, Listing, Setup, SetupLine, SetupLines};
+pub use settled::{AuditWhy, Item, Position, Recon, Side, TxnRow, Verdict};
+pub use setup::{Account, AccountRef, Listing, Setup, SetupLine, SetupLines, write_account};
+pub use shards::{account_shard, txn_shard};
 pub use text::{Rule, Text};
 
 /// The name of a transaction (`Txn.id`): 1 to 35 letters, digits, `-`, `.` or `_`.

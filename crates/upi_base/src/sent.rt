@@ -1,8 +1,10 @@
 //! The messages that are sent.
 ghost use Rattle.std.specs.Prelude.{◌≡◌, IfOk};
 
+use crate::boxed::Boxed;
 use crate::code::{Answer, Kind, Leg, Outcome};
 use crate::fault::NoMemory;
+use crate::message::copy_note;
 use crate::paise::Paise;
 use crate::setup::AccountRef;
 use crate::{Addr, BankCode, MsgId, Note, PspName, TxnId};
@@ -17,6 +19,19 @@ pub enum Party {
     Bank(BankCode),
 }
 
+impl Party {
+    /// The same party.
+    pub fn copy(&self) -> Party
+        ensures { result ≡ self.now }
+    {
+        match self {
+            Party::Switch => Party::Switch,
+            Party::Psp(name) => Party::Psp(name.copy()),
+            Party::Bank(code) => Party::Bank(code.copy()),
+        }
+    }
+}
+
 /// What the asked PSP is asked (`ReqAuthDetails`).
 #[derive(Clone, Drop, PartialEq, Eq)]
 pub struct AuthQuestion {
@@ -28,11 +43,27 @@ pub struct AuthQuestion {
     pub note: Option<Note>,
 }
 
+impl AuthQuestion {
+    /// The same question.
+    pub fn copy(&self) -> AuthQuestion
+        ensures { result ≡ self.now }
+    {
+        AuthQuestion {
+            txn: self.txn.copy(),
+            kind: self.kind,
+            payer: self.payer.copy(),
+            payee: self.payee.copy(),
+            amount: self.amount,
+            note: copy_note(&self.note),
+        }
+    }
+}
+
 /// What a message says.
-#[derive(Clone, Drop, PartialEq, Eq)]
+#[derive(Drop, PartialEq)]
 pub enum Body {
     /// REQAUTH: to the asked PSP.
-    ReqAuth(Box<AuthQuestion>),
+    ReqAuth(Boxed<AuthQuestion>),
     /// RESPAUTH: a model PSP's yes or no.
     RespAuth {
         txn: TxnId,
@@ -72,12 +103,76 @@ pub enum Body {
     },
 }
 
+impl Body {
+    /// The same body. It fails only for want of memory.
+    pub fn copy(&self, alloc: Global) -> Result<Body, NoMemory>
+        ensures { IfOk result (λ x. x ≡ self.now) }
+    {
+        match self {
+            Body::ReqAuth(question) => Ok(Body::ReqAuth(Boxed::new(alloc, question.get().copy())?)),
+            Body::RespAuth { txn, amount, yes } => Ok(Body::RespAuth {
+                txn: txn.copy(),
+                amount: *amount,
+                yes: *yes,
+            }),
+            Body::Order {
+                txn,
+                leg,
+                amount,
+                ac,
+                addr,
+            } => Ok(Body::Order {
+                txn: txn.copy(),
+                leg: *leg,
+                amount: *amount,
+                ac: ac.copy(),
+                addr: addr.copy(),
+            }),
+            Body::LegAnswer { txn, leg, answer } => Ok(Body::LegAnswer {
+                txn: txn.copy(),
+                leg: *leg,
+                answer: *answer,
+            }),
+            Body::Result {
+                txn,
+                kind,
+                outcome,
+                req_msg,
+            } => Ok(Body::Result {
+                txn: txn.copy(),
+                kind: *kind,
+                outcome: *outcome,
+                req_msg: req_msg.copy(),
+            }),
+            Body::Confirm { txn, kind, outcome } => Ok(Body::Confirm {
+                txn: txn.copy(),
+                kind: *kind,
+                outcome: *outcome,
+            }),
+            Body::Confirmed { txn } => Ok(Body::Confirmed { txn: txn.copy() }),
+        }
+    }
+}
+
 /// A message that is sent.
-#[derive(Clone, Drop, PartialEq, Eq)]
+#[derive(Drop, PartialEq)]
 pub struct Sent {
     pub from: Party,
     pub to: Party,
     pub body: Body,
+}
+
+impl Sent {
+    /// The same message. It fails only for want of memory.
+    pub fn copy(&self, alloc: Global) -> Result<Sent, NoMemory>
+        ensures { IfOk result (λ x. x ≡ self.now) }
+    {
+        Ok(Sent {
+            from: self.from.copy(),
+            to: self.to.copy(),
+            body: self.body.copy(alloc)?,
+        })
+    }
 }
 
 /// Messages, in the order in which they are sent.
@@ -96,7 +191,7 @@ impl Model for SentList {
 }
 
 impl SentList {
-    ghost use Rattle.std.specs.Prelude.{◌≡◌, []};
+    ghost use Rattle.std.specs.Prelude.{◌≡◌, [], IfOk};
 
     /// No messages.
     pub fn new(alloc: Global) -> SentList
@@ -112,6 +207,17 @@ impl SentList {
         ensures { result ≡ items.items }
     {
         SentList { items }
+    }
+
+    /// The same messages. It fails only for want of memory.
+    pub fn copy(&self, alloc: Global) -> Result<SentList, NoMemory>
+        ensures { IfOk result (λ x. x ≡ self.now) }
+    {
+        let mut items = Vec::new(alloc);
+        for sent in &self.items {
+            items.push(sent.copy(alloc)?)?;
+        }
+        Ok(SentList { items })
     }
 
     /// The messages as a slice.

@@ -1,5 +1,7 @@
 //! The setup: banks, PSPs, accounts and addresses.
-ghost use Rattle.std.specs.Prelude.{◌≡◌, IfOk};
+ghost use Rattle.std.specs.Prelude.{◌≡◌, ◌++◌, IfOk, OnOk, OnErr};
+ghost use Rattle.upi_base.specs.Shards.{account_text};
+ghost use Rattle.upi_base.specs.Accounts.{account_of};
 
 use crate::code::Policy;
 use crate::fault::NoMemory;
@@ -26,6 +28,34 @@ impl AccountRef {
             num: self.num.copy(),
         }
     }
+
+    /// The account that a text names, if it is the code of a bank, `/`, and the number of an
+    /// account.
+    pub fn read(text: &[u8]) -> Option<AccountRef>
+        ensures { result ≡ account_of text.now }
+    {
+        if text.len() < 5 || text[4] != b'/' {
+            return None;
+        }
+        let bank = BankCode::read(&text[..4])?;
+        let num = AcNum::read(&text[5..])?;
+        Some(AccountRef { bank, num })
+    }
+}
+
+/// Appends an account as it is written: its bank, `/`, its number. It fails only for want of
+/// memory, and then changes nothing.
+pub fn write_account(ac: &AccountRef, out: &mut Vec<u8>) -> Result<(), NoMemory>
+    ensures ok { OnOk result (out.new.items ≡ out.old.items ++ account_text ac.now) }
+    ensures err { OnErr result (out.new.items ≡ out.old.items) }
+{
+    let bank = ac.bank.bytes();
+    let num = ac.num.bytes();
+    out.reserve(bank.len() + 1 + num.len())?;
+    out.extend_from_slice(bank)?;
+    out.extend_from_slice(b"/")?;
+    out.extend_from_slice(num)?;
+    Ok(())
 }
 
 /// A line of a setup.
@@ -83,11 +113,37 @@ pub struct Account {
     pub no_credit: bool,
 }
 
+impl Account {
+    /// The same account.
+    pub fn copy(&self) -> Account
+        ensures { result ≡ self.now }
+    {
+        Account {
+            ac: self.ac.copy(),
+            opening: self.opening,
+            no_debit: self.no_debit,
+            no_credit: self.no_credit,
+        }
+    }
+}
+
 /// What a setup gives for an address: its account, and how its model PSP answers.
 #[derive(Clone, Drop, PartialEq, Eq)]
 pub struct Listing {
     pub ac: AccountRef,
     pub policy: Policy,
+}
+
+impl Listing {
+    /// The same listing.
+    pub fn copy(&self) -> Listing
+        ensures { result ≡ self.now }
+    {
+        Listing {
+            ac: self.ac.copy(),
+            policy: self.policy,
+        }
+    }
 }
 
 /// The lines of a setup, in order.
@@ -106,7 +162,7 @@ impl Model for SetupLines {
 }
 
 impl SetupLines {
-    ghost use Rattle.std.specs.Prelude.{◌≡◌, ◌++◌, ◌∷◌, [], OnOk, OnErr};
+    ghost use Rattle.std.specs.Prelude.{◌≡◌, ◌++◌, ◌∷◌, [], IfOk, OnOk, OnErr};
 
     /// No lines.
     pub fn new(alloc: Global) -> SetupLines
@@ -122,6 +178,17 @@ impl SetupLines {
         ensures { result ≡ items.items }
     {
         SetupLines { items }
+    }
+
+    /// The same lines. It fails only for want of memory.
+    pub fn copy(&self, alloc: Global) -> Result<SetupLines, NoMemory>
+        ensures { IfOk result (λ x. x ≡ self.now) }
+    {
+        let mut items = Vec::new(alloc);
+        for line in &self.items {
+            items.push(line.copy())?;
+        }
+        Ok(SetupLines { items })
     }
 
     /// The lines as a slice.
@@ -153,4 +220,16 @@ impl SetupLines {
 pub struct Setup {
     pub start: Moment,
     pub lines: SetupLines,
+}
+
+impl Setup {
+    /// The same setup. It fails only for want of memory.
+    pub fn copy(&self, alloc: Global) -> Result<Setup, NoMemory>
+        ensures { IfOk result (λ x. x ≡ self.now) }
+    {
+        Ok(Setup {
+            start: self.start,
+            lines: self.lines.copy(alloc)?,
+        })
+    }
 }
