@@ -3,6 +3,7 @@ use Rattle.std.specs.Prelude.{ℕ, Bool, true, false, List, ◌++◌, codes, Opt
 use Rattle.serde_json.specs.Data.{Data, string, array, object, no_items, item, Members, no_members, member}
 use Rattle.serde_json.specs.Written.{compact_text}
 use Rattle.upi_base.specs.Money.{paise_text}
+use Rattle.upi_base.specs.Time.{moment_text}
 use Rattle.upi_base.specs.declared.code.Kind.{Kind}
 use Rattle.upi_base.specs.declared.code.Kind.TheVariants as kind
 use Rattle.upi_base.specs.declared.setup.AccountRef.{AccountRef}
@@ -28,9 +29,6 @@ only name d = object (member name d no_members)
 -- an array with one item
 abbrev pub single : Data → Data
 single d = array (item d no_items)
-
-unfoldable pub moment_text : ℕ → List ℕ
-moment_text m = paise_text m
 
 -- the `Head` of a message
 unfoldable pub head_tree : Head → Data
@@ -119,10 +117,10 @@ api_text api.ReqTxnConfirmation = codes "ReqTxnConfirmation"
 
 -- the tree of a message: its root name, and its body
 abbrev pub message_tree : Message → Data
-message_tree (message.Pay r) = only (codes "ReqPay") (pay_tree r.value)
-message_tree (message.AuthAnswer a) = only (codes "RespAuthDetails") (answer_tree a.value)
+message_tree (message.Pay r) = only (codes "ReqPay") (pay_tree r)
+message_tree (message.AuthAnswer a) = only (codes "RespAuthDetails") (answer_tree a)
 message_tree (message.Check k) = only (codes "ReqChkTxn") (check_tree k)
-message_tree (message.Confirmed k) = only (codes "RespTxnConfirmation") (confirmed_tree k.value)
+message_tree (message.Confirmed k) = only (codes "RespTxnConfirmation") (confirmed_tree k)
 message_tree (message.Foreign name head) = only (api_text name) (only (codes "Head") (head_tree head))
 
 -- the written form of a message

@@ -3,3 +3,8 @@
 
 mod quote;
 mod write;
+
+pub use write::text;
+
+#[cfg(test)]
+mod tests;

@@ -3,8 +3,9 @@ ghost use Rattle.std.specs.Prelude.{◌≡◌, ◌++◌, OnOk, OnErr, codes, str
 ghost use Rattle.serde_json.specs.Data.{string};
 ghost use Rattle.serde_json.specs.Written.{compact_text};
 ghost use Rattle.json.specs.Print.{quoted};
-ghost use Rattle.upi_msg.specs.Tree.{only, moment_text, kind_text, result_text, api_text, head_tree, amount_tree, account_tree, rules_tree, account_payees_tree, payer_tree, payee_tree, payment_tree, pay_tree, answer_payer_tree, resp_tree, answer_tree, check_tree, confirmed_tree, message_tree, message_text};
+ghost use Rattle.upi_msg.specs.Tree.{only, kind_text, result_text, api_text, head_tree, amount_tree, account_tree, rules_tree, account_payees_tree, payer_tree, payee_tree, payment_tree, pay_tree, answer_payer_tree, resp_tree, answer_tree, check_tree, confirmed_tree, message_tree, message_text};
 ghost use Rattle.upi_base.specs.Money.{paise_text};
+ghost use Rattle.upi_base.specs.Time.{moment_text};
 ghost use Rattle.upi_msg.specs.Pieces.{front_text, later_text};
 
 use crate::quote::{push_escaped, push_quoted};
@@ -34,14 +35,14 @@ fn push_member(out: &mut Vec<u8>, before: &[u8], text: &[u8]) -> Result<(), NoMe
     push_quoted(out, text)
 }
 
+// Appends the string of a moment.
 fn push_moment(out: &mut Vec<u8>, ts: Moment) -> Result<(), NoMemory>
     ensures { OnOk result (out.new.items ≡ out.old.items ++ quoted (moment_text ts)) }
 {
+    // The getter's clause says that the moment is in range.
+    let _ = ts.get();
     out.push(b'"')?;
-    match Paise::of(ts.get()) {
-        None => return Err(NoMemory),
-        Some(p) => p.write(out)?,
-    }
+    ts.write(out)?;
     out.push(b'"')?;
     Ok(())
 }
@@ -193,5 +194,140 @@ pub(crate) fn push_pay(out: &mut Vec<u8>, request: &PayReq) -> Result<(), NoMemo
     out.extend_from_slice(b",\"Txn\":")?;
     push_payment(out, request)?;
     out.extend_from_slice(b"}}")?;
+    Ok(())
+}
+
+// The word of a yes or a no.
+fn result_text(yes: bool) -> &'static [u8]
+    ensures { result.now ≡ result_text yes }
+{
+    if yes { b"SUCCESS" } else { b"FAILURE" }
+}
+
+// Appends the `Payees` of an answer that gives the payee's account.
+fn push_payees(out: &mut Vec<u8>, ac: &Option<AccountRef>) -> Result<(), NoMemory>
+    ensures { OnOk result (out.new.items
+        ≡ out.old.items ++ later_text (codes "Payees") (option_map account_payees_tree ac.now)) }
+{
+    if let Some(ac) = ac {
+        out.extend_from_slice(b",\"Payees\":{\"Payee\":[{\"Ac\":")?;
+        push_account(out, ac)?;
+        out.extend_from_slice(b"}]}")?;
+    }
+    Ok(())
+}
+
+// Appends the `Payer` of an answer.
+fn push_answer_payer(out: &mut Vec<u8>, answer: &AuthResp) -> Result<(), NoMemory>
+    ensures { OnOk result (out.new.items
+        ≡ out.old.items ++ compact_text (answer_payer_tree answer.now)) }
+{
+    out.push(b'{')?;
+    push_ac_front(out, &answer.payer_ac)?;
+    out.extend_from_slice(b"\"Amount\":")?;
+    push_amount(out, answer.amount)?;
+    out.push(b'}')?;
+    Ok(())
+}
+
+// Appends the `Resp` of an answer.
+fn push_resp(out: &mut Vec<u8>, answer: &AuthResp) -> Result<(), NoMemory>
+    ensures { OnOk result (out.new.items ≡ out.old.items ++ compact_text (resp_tree answer.now)) }
+{
+    push_text(out, b"{\"reqMsgId\":", &answer.req_msg)?;
+    push_member(out, b",\"result\":", result_text(answer.yes))?;
+    out.push(b'}')?;
+    Ok(())
+}
+
+// Appends a `RespAuthDetails`.
+fn push_answer(out: &mut Vec<u8>, answer: &AuthResp) -> Result<(), NoMemory>
+    ensures { OnOk result (out.new.items
+        ≡ out.old.items ++ compact_text (only (codes "RespAuthDetails") (answer_tree answer.now))) }
+{
+    out.extend_from_slice(b"{\"RespAuthDetails\":{\"Head\":")?;
+    push_head(out, &answer.head)?;
+    push_payees(out, &answer.payee_ac)?;
+    out.extend_from_slice(b",\"Payer\":")?;
+    push_answer_payer(out, answer)?;
+    out.extend_from_slice(b",\"Resp\":")?;
+    push_resp(out, answer)?;
+    push_text(out, b",\"Txn\":{\"id\":", &answer.txn)?;
+    out.extend_from_slice(b"}}}")?;
+    Ok(())
+}
+
+// Appends a `ReqChkTxn`.
+fn push_check(out: &mut Vec<u8>, check: &Chk) -> Result<(), NoMemory>
+    ensures { OnOk result (out.new.items
+        ≡ out.old.items ++ compact_text (only (codes "ReqChkTxn") (check_tree check.now))) }
+{
+    out.extend_from_slice(b"{\"ReqChkTxn\":{\"Head\":")?;
+    push_head(out, &check.head)?;
+    push_text(out, b",\"Txn\":{\"id\":", &check.txn)?;
+    out.extend_from_slice(b"}}}")?;
+    Ok(())
+}
+
+// Appends a `RespTxnConfirmation`.
+fn push_confirmed(out: &mut Vec<u8>, answer: &ConfResp) -> Result<(), NoMemory>
+    ensures { OnOk result (out.new.items ≡ out.old.items
+        ++ compact_text (only (codes "RespTxnConfirmation") (confirmed_tree answer.now))) }
+{
+    out.extend_from_slice(b"{\"RespTxnConfirmation\":{\"Head\":")?;
+    push_head(out, &answer.head)?;
+    push_text(out, b",\"Resp\":{\"reqMsgId\":", &answer.req_msg)?;
+    push_text(out, b"},\"Txn\":{\"id\":", &answer.txn)?;
+    out.extend_from_slice(b"}}}")?;
+    Ok(())
+}
+
+// The root name of a message that a PSP may not send.
+fn api_text(api: Api) -> &'static [u8]
+    ensures { result.now ≡ api_text api }
+{
+    match api {
+        Api::RespPay => b"RespPay",
+        Api::ReqAuthDetails => b"ReqAuthDetails",
+        Api::RespChkTxn => b"RespChkTxn",
+        Api::ReqTxnConfirmation => b"ReqTxnConfirmation",
+    }
+}
+
+// Appends a message that a PSP may not send: its `Head` alone.
+fn push_foreign(out: &mut Vec<u8>, api: Api, head: &Head) -> Result<(), NoMemory>
+    ensures { OnOk result (out.new.items ≡ out.old.items
+        ++ compact_text (only (api_text api) (only (codes "Head") (head_tree head.now)))) }
+{
+    push_member(out, b"{", api_text(api))?;
+    out.extend_from_slice(b":{\"Head\":")?;
+    push_head(out, head)?;
+    out.extend_from_slice(b"}}")?;
+    Ok(())
+}
+
+// Appends a message.
+fn push_message(out: &mut Vec<u8>, message: &Message) -> Result<(), NoMemory>
+    ensures { OnOk result (out.new.items ≡ out.old.items ++ message_text message.now) }
+{
+    match message {
+        Message::Pay(request) => push_pay(out, request.get()),
+        Message::AuthAnswer(answer) => push_answer(out, answer.get()),
+        Message::Check(check) => push_check(out, check),
+        Message::Confirmed(answer) => push_confirmed(out, answer.get()),
+        Message::Foreign { api, head } => push_foreign(out, *api, head),
+    }
+}
+
+/// Appends the written form of a message: compact JSON, the members in byte order of their names,
+/// with exactly the members that the message keeps. It fails only for want of memory, and then
+/// leaves `out` as it was.
+pub fn text(alloc: Global, message: &Message, out: &mut Vec<u8>) -> Result<(), NoMemory>
+    ensures ok { OnOk result (out.new.items ≡ out.old.items ++ message_text message.now) }
+    ensures err { OnErr result (out.new.items ≡ out.old.items) }
+{
+    let mut written = Vec::new(alloc);
+    push_message(&mut written, message)?;
+    out.extend_from_slice(&written)?;
     Ok(())
 }

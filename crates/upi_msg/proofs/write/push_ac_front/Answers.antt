@@ -1,5 +1,5 @@
-use Rattle.json.specs.Print.{escape_byte}
 use Rattle.std.proofs.Common.{append_assoc, refl}
+use Rattle.json.specs.Print.{escape_byte}
 use Rattle.upi_msg.proofs.write.push_ac_front.Goals as goal
 
 pub returns-in_ok-push : goal.returns-in_ok-push
