@@ -4,3 +4,6 @@ pub mod Dates
 pub mod Hashes
 pub mod Civils
 pub mod Stamps
+pub mod Lists
+pub mod Again
+pub mod Setups

@@ -10,6 +10,7 @@ pub mod code;
 pub mod directory;
 pub mod entry;
 pub mod fault;
+pub mod laws;
 pub mod message;
 pub mod minutes;
 pub mod moment;
