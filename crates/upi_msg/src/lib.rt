@@ -2,8 +2,10 @@
 #![tactic(auto)]
 
 mod quote;
+mod read;
 mod write;
 
+pub use read::{plain_reads_back, read_plain};
 pub use write::text;
 
 #[cfg(test)]
