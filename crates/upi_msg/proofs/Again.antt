@@ -1,5 +1,5 @@
 -- The written form of a plain payment is read back.
-use Rattle.std.proofs.Common.{unwrap_or, ◌≡◌, ◌≢◌, ◌≤◌, ℕ, true, List, [], ◌∷◌, ◌++◌, append-nil, codes, option_map, Option, None, Some, refl, sym, ap, ◌∙◌, subst, IsUtf8, arith, rules}
+use Rattle.std.proofs.Common.{true≢false, false, unwrap_or, ◌≡◌, ◌≢◌, ◌≤◌, ℕ, true, List, [], ◌∷◌, ◌++◌, append-nil, codes, option_map, Option, None, Some, refl, sym, ap, ◌∙◌, subst, IsUtf8, arith, rules}
 use Rattle.std.specs.Option.{option_and_then}
 use Rattle.std.specs.Str.{bytes_eq}
 use Rattle.std.proofs.lemmas.Option.{none-some}
@@ -109,8 +109,8 @@ address_utf8 s e = utf8_clear s (clear_address 71 s e)
 head_utf8 : (h : Head) → IsTypedHead h → IsUtf8 (compact_text (head_tree h))
 head_utf8 h t =
     subst IsUtf8 (head_text h) (glue_utf8 (head_parts h)
-    (behind _ h.msg_id refl (name_utf8 35 h.msg_id t.0),
-    (behind _ h.org refl (name_utf8 20 h.org t.1),
+    (behind (codes "{\"msgId\":") h.msg_id refl (name_utf8 35 h.msg_id t.0),
+    (behind (codes ",\"orgId\":") h.org refl (name_utf8 20 h.org t.1),
     (IsUtf8-are_ascii (codes ",\"ts\":") refl,
     (IsUtf8-quoted (moment_text h.ts) (utf8_clear (moment_text h.ts) (clear_moment h.ts t.2)),
     (IsUtf8-are_ascii (codes ",\"ver\":\"1.0\"}") refl, tt))))))
@@ -129,7 +129,7 @@ payer_utf8 r t =
     (IsUtf8-nil,
     (IsUtf8-are_ascii (codes "\"Amount\":") refl,
     (amount_utf8 r.amount,
-    (behind _ r.payer refl (address_utf8 r.payer t.2),
+    (behind (codes ",\"addr\":") r.payer refl (address_utf8 r.payer t.2),
     (IsUtf8-are_ascii (codes "}") refl, tt)))))))
 
 payee_utf8 : (r : PayReq) → IsTyped r → IsUtf8 (compact_text (payee_tree (form_of r)))
@@ -137,7 +137,7 @@ payee_utf8 r t =
     subst IsUtf8 (payee_text (form_of r)) (glue_utf8 (payee_parts (form_of r))
     (IsUtf8-are_ascii (codes "{") refl,
     (IsUtf8-nil,
-    (behind _ r.payee refl (address_utf8 r.payee t.3),
+    (behind (codes "\"addr\":") r.payee refl (address_utf8 r.payee t.3),
     (IsUtf8-are_ascii (codes "}") refl, tt)))))
 
 payment_utf8 : (r : PayReq) → IsTyped r → IsUtf8 (compact_text (payment_tree (form_of r)))
@@ -145,9 +145,9 @@ payment_utf8 r t =
     subst IsUtf8 (payment_text (form_of r)) (glue_utf8 (payment_parts (form_of r))
     (IsUtf8-are_ascii (codes "{") refl,
     (IsUtf8-nil,
-    (behind _ r.txn refl (name_utf8 35 r.txn t.1),
+    (behind (codes "\"id\":") r.txn refl (name_utf8 35 r.txn t.1),
     (IsUtf8-nil,
-    (behind _ (codes "PAY") refl (IsUtf8-are_ascii (codes "PAY") refl),
+    (behind (codes ",\"type\":") (codes "PAY") refl (IsUtf8-are_ascii (codes "PAY") refl),
     (IsUtf8-are_ascii (codes "}") refl, tt)))))))
 
 form_utf8 : (r : PayReq) → IsTyped r → IsUtf8 (message_text (message.Pay (form_of r)))
@@ -196,6 +196,10 @@ pub no_match : (text : List ℕ) (d : Data) (q : PayReq) → read text ≡ Some 
 no_match text d q found members other r p t e =
     let same : Some q ≡ Some r = members ∙ fields_in text d r found p t e in
     other (ap (λ (o : Option PayReq). message_text (message.Pay (unwrap_or o q))) same ∙ e)
+
+-- another text stands there than was written
+pub differs : (x y t : List ℕ) → x ≡ t → false ≡ bytes_eq x y → t ≢ y
+differs x y t s e same = true≢false (sym ((bytes_eq-Decides x y).1 (s ∙ same)) ∙ sym e)
 
 -- ---- the law
 

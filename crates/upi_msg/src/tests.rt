@@ -105,3 +105,38 @@ fn answers(rt: HostRuntime) -> Result<(), Fail> {
     assert!(rt; is_written(alloc, &foreign, b"{\"ReqTxnConfirmation\":{\"Head\":{\"msgId\":\"A9\",\"orgId\":\"alpha\",\"ts\":\"2024-01-01T05:30:00+05:30\",\"ver\":\"1.0\"}}}")?);
     Ok(())
 }
+
+fn is_plain(alloc: Global, text: &[u8]) -> Result<bool, Fail> {
+    Ok(read_plain(alloc, text).ok().ok_or("memory")?.is_some())
+}
+
+#[test]
+fn plain_payment(rt: HostRuntime) -> Result<(), Fail> {
+    let alloc = rt.alloc();
+    let found = read_plain(alloc, P1).ok().ok_or("memory")?;
+    let expected = Boxed::new(alloc, p1().ok_or("a payment")?).ok().ok_or("memory")?;
+    assert!(rt; found == Some(Message::Pay(expected)));
+    Ok(())
+}
+
+#[test]
+fn other_payments(rt: HostRuntime) -> Result<(), Fail> {
+    let alloc = rt.alloc();
+    // One decimal too few, one too many.
+    assert!(rt; !is_plain(alloc, b"{\"ReqPay\":{\"Head\":{\"msgId\":\"A1\",\"orgId\":\"alpha\",\"ts\":\"2024-01-01T05:30:00+05:30\",\"ver\":\"1.0\"},\"Payees\":{\"Payee\":[{\"addr\":\"bob@beta\"}]},\"Payer\":{\"Amount\":{\"curr\":\"INR\",\"value\":\"30\"},\"addr\":\"ann@alpha\"},\"Txn\":{\"id\":\"T1\",\"type\":\"PAY\"}}}")?);
+    assert!(rt; !is_plain(alloc, b"{\"ReqPay\":{\"Head\":{\"msgId\":\"A1\",\"orgId\":\"alpha\",\"ts\":\"2024-01-01T05:30:00+05:30\",\"ver\":\"1.0\"},\"Payees\":{\"Payee\":[{\"addr\":\"bob@beta\"}]},\"Payer\":{\"Amount\":{\"curr\":\"INR\",\"value\":\"1.005\"},\"addr\":\"ann@alpha\"},\"Txn\":{\"id\":\"T1\",\"type\":\"PAY\"}}}")?);
+    // A space more.
+    assert!(rt; !is_plain(alloc, b"{\"ReqPay\":{\"Head\":{\"msgId\":\"A1\",\"orgId\":\"alpha\",\"ts\":\"2024-01-01T05:30:00+05:30\",\"ver\":\"1.0\"},\"Payees\":{\"Payee\":[{\"addr\":\"bob@beta\"}]},\"Payer\":{\"Amount\":{\"curr\":\"INR\",\"value\":\"30.00\"},\"addr\":\"ann@alpha\"},\"Txn\":{\"id\":\"T1\",\"type\":\"PAY\"}}} ")?);
+    // Members in another order.
+    assert!(rt; !is_plain(alloc, b"{\"ReqPay\":{\"Head\":{\"msgId\":\"A1\",\"orgId\":\"alpha\",\"ts\":\"2024-01-01T05:30:00+05:30\",\"ver\":\"1.0\"},\"Payees\":{\"Payee\":[{\"addr\":\"bob@beta\"}]},\"Payer\":{\"Amount\":{\"curr\":\"INR\",\"value\":\"30.00\"},\"addr\":\"ann@alpha\"},\"Txn\":{\"type\":\"PAY\",\"id\":\"T1\"}}}")?);
+    // A note.
+    assert!(rt; !is_plain(alloc, b"{\"ReqPay\":{\"Head\":{\"msgId\":\"A1\",\"orgId\":\"alpha\",\"ts\":\"2024-01-01T05:30:00+05:30\",\"ver\":\"1.0\"},\"Payees\":{\"Payee\":[{\"addr\":\"bob@beta\"}]},\"Payer\":{\"Amount\":{\"curr\":\"INR\",\"value\":\"30.00\"},\"addr\":\"ann@alpha\"},\"Txn\":{\"id\":\"T1\",\"note\":\"tea\",\"type\":\"PAY\"}}}")?);
+    // A COLLECT, and no type.
+    assert!(rt; !is_plain(alloc, b"{\"ReqPay\":{\"Head\":{\"msgId\":\"A1\",\"orgId\":\"alpha\",\"ts\":\"2024-01-01T05:30:00+05:30\",\"ver\":\"1.0\"},\"Payees\":{\"Payee\":[{\"addr\":\"bob@beta\"}]},\"Payer\":{\"Amount\":{\"curr\":\"INR\",\"value\":\"30.00\"},\"addr\":\"ann@alpha\"},\"Txn\":{\"id\":\"T1\",\"type\":\"COLLECT\"}}}")?);
+    assert!(rt; !is_plain(alloc, b"{\"ReqPay\":{\"Head\":{\"msgId\":\"A1\",\"orgId\":\"alpha\",\"ts\":\"2024-01-01T05:30:00+05:30\",\"ver\":\"1.0\"},\"Payees\":{\"Payee\":[{\"addr\":\"bob@beta\"}]},\"Payer\":{\"Amount\":{\"curr\":\"INR\",\"value\":\"30.00\"},\"addr\":\"ann@alpha\"},\"Txn\":{\"id\":\"T1\"}}}")?);
+    // The payee's amount.
+    assert!(rt; !is_plain(alloc, b"{\"ReqPay\":{\"Head\":{\"msgId\":\"A1\",\"orgId\":\"alpha\",\"ts\":\"2024-01-01T05:30:00+05:30\",\"ver\":\"1.0\"},\"Payees\":{\"Payee\":[{\"Amount\":{\"curr\":\"INR\",\"value\":\"30.00\"},\"addr\":\"bob@beta\"}]},\"Payer\":{\"Amount\":{\"curr\":\"INR\",\"value\":\"30.00\"},\"addr\":\"ann@alpha\"},\"Txn\":{\"id\":\"T1\",\"type\":\"PAY\"}}}")?);
+    // No UTF-8.
+    assert!(rt; !is_plain(alloc, b"{\"ReqPay\":\"\xff\"}")?);
+    Ok(())
+}

@@ -1,19 +1,21 @@
-use Rattle.std.proofs.Common.{rules, ◌≡◌, ◌≢◌, ◌<◌, ℕ, List, codes, Option, Some, None, MatchOption, IfSome, IfOk, IsUtf8, option_map, option_and_then, ◌+◌, ◌-◌, ◌*◌, ◌≤◌, length, ◌/◌, ◌%◌, Bool, true, false, nat_eq, nat_lt, [], ◌∷◌, ◌++◌, slice_index_or, slice_set, bit_and, bit_or, Fits, w8, w32, w64, Bor, MutBor}
-use Rattle.serde_json.specs.Read.{read as read_tree}
+use Rattle.std.proofs.Common.{◌≡◌, ◌++◌, List, ℕ, ap, sym, ◌∙◌}
 use Rattle.serde_json.specs.View.{view}
-use Rattle.upi_base.specs.Texts.{fits}
+use Rattle.upi_base.specs.declared.message.Message.TheVariants as message
 use Rattle.upi_msg.specs.Tree.{message_text}
-use Rattle.upi_msg.specs.Plain.{IsPlain, IsTyped, IsPlainPay, text_at, small_at, plain_head, plain_payee, plain_amount, plain_of, plain_in, IsOther, PlainReadsBack}
+use Rattle.upi_msg.proofs.Again.{no_tree, no_members, no_match, differs}
 use Rattle.upi_msg.proofs.read.plain_request.Goals as goal
 
--- src/read.rt:115:9
 pub returns-in_default : goal.returns-in_default
-returns-in_default c = ?
+returns-in_default c = no_tree c.args.text.now (rw c.in_default.is at c.in_ok-value.ensures)
 
--- src/read.rt:118:9
 pub returns-in_default-plain_of : goal.returns-in_default-plain_of
-returns-in_default-plain_of c = ?
+returns-in_default-plain_of c =
+    let read = rw c.in-Some.is at c.in_ok-value.ensures in
+    no_members c.args.text.now (view c.in-Some.value) read.1 c.in_default-plain_of.ensures.read
 
--- src/read.rt:110:1
 pub returns : goal.returns
-returns c = ?
+returns c =
+    let read = rw c.in-Some.is at c.in_ok-value.ensures in
+    let again : List ℕ = message_text (message.Pay c.in-Some-plain_of.request) in
+    let written = c.as_slice.ensures.value ∙ c.in_ok-push_pay.ensures ∙ ap (λ (l : List ℕ). l ++ again) c.new-written.ensures.items in
+    no_match c.args.text.now (view c.in-Some.value) c.in-Some-plain_of.request read.1 c.in-Some-plain_of.ensures.read (differs c.as_slice.result.now c.args.text.now again written c.if-eq.ensures)
