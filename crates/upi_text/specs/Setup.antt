@@ -1,5 +1,5 @@
 -- The lines of a setup, read.
-use Rattle.std.specs.Prelude.{ℕ, ◌==◌, nat_le, Bool, true, false, not, ◌&&◌, if◌then◌else◌, List, [], ◌∷◌, ◌++◌, length, codes, Option, Some, None, Result, Ok, Err}
+use Rattle.std.specs.Prelude.{◌≡◌, ℕ, ◌==◌, nat_le, Bool, true, false, not, ◌&&◌, if◌then◌else◌, List, [], ◌∷◌, ◌++◌, length, codes, Option, Some, None, Result, Ok, Err}
 use Rattle.std.specs.Str.{bytes_eq, is_utf8}
 use Rattle.upi_base.specs.declared.code.Policy.{Policy}
 use Rattle.upi_base.specs.declared.code.Policy.TheVariants as policy
@@ -12,7 +12,7 @@ use Rattle.upi_base.specs.Texts.{is_bank_code, is_psp_name, is_addr}
 use Rattle.upi_base.specs.Money.{paise_of}
 use Rattle.upi_base.specs.Time.{moment_of}
 use Rattle.upi_base.specs.Setup.{setup_fault}
-use Rattle.upi_text.specs.Stub.{account_of}
+use Rattle.upi_base.specs.Accounts.{account_of}
 use Rattle.upi_text.specs.Words.{is_skipped, words, word_at}
 use Rattle.upi_text.specs.Refusals.{◌>>=◌, refusal, not_utf8, no_command, other_fields, valued}
 use Rattle.upi_text.specs.declared.refusal.Refusal.{Refusal}
@@ -150,6 +150,13 @@ setup_read S text =
     if is_skipped text then Ok read.Skipped
     else if not (is_utf8 text) then Err not_utf8
     else part_line S.start S.lines (words text)
+
+-- the setup takes what a line says
+abbrev pub MayFollow : List SetupLine → SetupRead → Type 0
+MayFollow lines read.Skipped = Unit {0}
+MayFollow lines (read.Start start) = Unit {0}
+MayFollow lines (read.Line l) = setup_fault lines l ≡ None
+MayFollow lines read.Open = Unit {0}
 
 -- the lines that were read, with one more
 abbrev pub state_after : SetupState → SetupRead → SetupState

@@ -3,7 +3,8 @@ use Rattle.std.specs.Prelude.{ℕ, Bool, if◌then◌else◌, List, [], ◌∷�
 use Rattle.upi_base.specs.declared.setup.SetupLine.{SetupLine}
 use Rattle.upi_base.specs.declared.setup.SetupLine.TheVariants as line
 use Rattle.upi_base.specs.Money.{paise_text}
-use Rattle.upi_text.specs.Stub.{account_text, moment_text}
+use Rattle.upi_base.specs.Shards.{account_text}
+use Rattle.upi_text.specs.Stub.{moment_text}
 use Rattle.upi_text.specs.Pieces.{spaced, policy_text}
 use Rattle.upi_text.specs.declared.setup.SetupRead.{SetupRead}
 use Rattle.upi_text.specs.declared.setup.SetupRead.TheVariants as read

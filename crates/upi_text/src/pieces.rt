@@ -3,11 +3,11 @@
 //! At an `Err` a part may be appended: callers write into a buffer of their own.
 ghost use Rattle.std.specs.Prelude.{◌≡◌, ◌++◌, ◌∷◌, OnOk, decimal};
 ghost use Rattle.upi_base.specs.Money.{paise_text};
-ghost use Rattle.upi_text.specs.Stub.{account_text};
+ghost use Rattle.upi_base.specs.Shards.{account_text};
 ghost use Rattle.upi_text.specs.Pieces.{spaced, policy_text, leg_text, code_text, fault_text, yes_text, answer_text, outcome_text, ack_text, pending_text, reply_text, party_text};
 
-use crate::stub::write_account;
 use itoa::Buffer;
+use upi_base::setup::write_account;
 use upi_base::{AccountRef, Answer, Code, Leg, MsgWhy, NoMemory, Outcome, Paise, Party, Policy, Reply};
 
 /// Appends bytes.

@@ -1,16 +1,15 @@
 //! The lines of a setup, read.
-ghost use Rattle.std.specs.Prelude.{◌≡◌, true};
+ghost use Rattle.std.specs.Prelude.{◌≡◌, true, IfOk, List};
 ghost use Rattle.std.specs.Str.{is_utf8, bytes_eq};
 ghost use Rattle.upi_base.specs.Lists.{when};
 ghost use Rattle.upi_base.specs.Texts.{is_bank_code, is_psp_name, is_addr};
 ghost use Rattle.upi_text.specs.Words.{words};
-ghost use Rattle.upi_text.specs.Setup.{bank_line, psp_line, flag_of, flags_of, account_line, policy_of, address_line, open_line, start_line, field_of, accepted, command_of, later_line, part_line};
+ghost use Rattle.upi_text.specs.Setup.{bank_line, psp_line, flag_of, flags_of, account_line, policy_of, address_line, open_line, start_line, field_of, accepted, command_of, later_line, part_line, MayFollow};
 
 use crate::refusal::Refusal;
-use crate::stub::read_account;
 use crate::words::{word, word_count};
 use std::str;
-use upi_base::{Addr, BankCode, Moment, Paise, Policy, PspName, SetupLine, Why, setup_fault};
+use upi_base::{AccountRef, Addr, BankCode, Moment, Paise, Policy, PspName, SetupLine, Why, setup_fault};
 
 /// What a line of the setup says.
 #[derive(Clone, Drop, PartialEq, Eq)]
@@ -163,7 +162,7 @@ fn account_line(line: &[u8]) -> Result<SetupLine, Refusal>
     if count < 3 || count > 5 {
         return Err(Refusal::other_fields());
     }
-    let Some(ac) = read_account(word(line, 1)) else {
+    let Some(ac) = AccountRef::read(word(line, 1)) else {
         return Err(Refusal::value(2));
     };
     let Some(opening) = Paise::read(word(line, 2)) else {
@@ -204,7 +203,7 @@ fn address_line(line: &[u8]) -> Result<SetupLine, Refusal>
     let Some(addr) = address(word(line, 1)) else {
         return Err(Refusal::value(2));
     };
-    let Some(ac) = read_account(word(line, 2)) else {
+    let Some(ac) = AccountRef::read(word(line, 2)) else {
         return Err(Refusal::value(3));
     };
     let Some(policy) = policy_of(word(line, 3)) else {
@@ -216,7 +215,8 @@ fn address_line(line: &[u8]) -> Result<SetupLine, Refusal>
 // `OPEN`
 #[tactic(auto, unfolding(crate::specs::Setup::open_line))]
 fn open_line(line: &[u8]) -> Result<SetupRead, Refusal>
-    ensures { result ≡ open_line (words line.now) }
+    ensures read { result ≡ open_line (words line.now) }
+    ensures follows { (lines : List SetupLine) → IfOk result (λ r. MayFollow lines r) }
 {
     if word_count(line) == 1 {
         Ok(SetupRead::Open)
@@ -228,7 +228,8 @@ fn open_line(line: &[u8]) -> Result<SetupRead, Refusal>
 // `START ts`
 #[tactic(auto, unfolding(crate::specs::Setup::start_line))]
 fn start_line(line: &[u8]) -> Result<SetupRead, Refusal>
-    ensures { result ≡ start_line (words line.now) }
+    ensures read { result ≡ start_line (words line.now) }
+    ensures follows { (lines : List SetupLine) → IfOk result (λ r. MayFollow lines r) }
 {
     if !is(word(line, 0), b"START") {
         return Err(Refusal::no_command());
@@ -256,7 +257,8 @@ fn field(why: Why) -> u32
 
 // The line, if the setup takes it behind those lines.
 fn accepted(lines: &[SetupLine], line: SetupLine) -> Result<SetupRead, Refusal>
-    ensures { result ≡ accepted lines.now line }
+    ensures read { result ≡ accepted lines.now line }
+    ensures follows { IfOk result (λ r. MayFollow lines.now r) }
 {
     match setup_fault(lines, &line) {
         None => Ok(SetupRead::Line(line)),
@@ -288,7 +290,8 @@ fn command_of(word: &[u8]) -> Option<Command>
 
 // A line behind START.
 fn later_line(lines: &[SetupLine], line: &[u8]) -> Result<SetupRead, Refusal>
-    ensures { result ≡ later_line lines.now (words line.now) }
+    ensures read { result ≡ later_line lines.now (words line.now) }
+    ensures follows { IfOk result (λ r. MayFollow lines.now r) }
 {
     let Some(command) = command_of(word(line, 0)) else {
         return Err(Refusal::no_command());
@@ -308,7 +311,8 @@ pub(crate) fn part_line(
     lines: &[SetupLine],
     line: &[u8],
 ) -> Result<SetupRead, Refusal>
-    ensures { result ≡ part_line start lines.now (words line.now) }
+    ensures read { result ≡ part_line start lines.now (words line.now) }
+    ensures follows { IfOk result (λ r. MayFollow lines.now r) }
 {
     match start {
         None => start_line(line),

@@ -72,8 +72,11 @@ impl SetupText {
     /// What a line says behind those that were taken, or the first reason for which it is refused:
     /// that it isn't UTF-8, its first word, the number of its words, the first word outside its
     /// grammar, and what the setup says of it. It takes no memory.
+    #[tactic(auto, using(crate::proofs::Kept::kept))]
     pub fn read(&self, line: &[u8]) -> Result<SetupRead, Refusal>
         ensures read { result ≡ setup_read self.now line.now }
+        // The setup that it makes of a setup is one.
+        ensures kept { IfOk result (λ r. is_setup self.now.lines ≡ true → is_setup (state_after self.now r).lines ≡ true) }
     {
         if is_skipped(line) {
             return Ok(SetupRead::Skipped);
