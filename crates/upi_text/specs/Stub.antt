@@ -1,6 +1,5 @@
-use Rattle.std.specs.Prelude.{ℕ, List, [], ◌∷◌, ◌++◌, Option, None}
+use Rattle.std.specs.Prelude.{ℕ, List, []}
 use Rattle.upi_base.specs.declared.message.Message.{Message}
-unfoldable pub moment_text : ℕ → List ℕ
-moment_text m = []
+
 unfoldable pub message_text : Message → List ℕ
 message_text m = []

@@ -3,7 +3,10 @@ ghost use Rattle.std.specs.Prelude.{◌≡◌, ◌++◌, ◌+◌, ◌<◌, ◌^�
 ghost use Rattle.upi_text.specs.Pieces.{spaced};
 ghost use Rattle.upi_text.specs.Journal.{body_text, sent_line as sent_line_of, sent_lines, heard_text, call_text, entry_line as entry_line_of, entry_lines};
 
-use crate::pieces::{fault_word, leg_word, party_word, push, push_account, push_answer, push_number, push_outcome, push_reply, push_sum, push_word, yes_word};
+use crate::pieces::{
+    fault_word, leg_word, party_word, push, push_account, push_answer, push_number, push_outcome,
+    push_reply, push_sum, push_word, yes_word,
+};
 use crate::stub::push_message;
 use std::alloc::Global;
 use upi_base::{Body, Call, Entry, Input, NoMemory, PspName, Sent, TxnId};

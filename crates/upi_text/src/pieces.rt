@@ -6,9 +6,10 @@ ghost use Rattle.upi_base.specs.Money.{paise_text};
 ghost use Rattle.upi_base.specs.Shards.{account_text};
 ghost use Rattle.upi_text.specs.Pieces.{spaced, policy_text, leg_text, code_text, fault_text, yes_text, answer_text, outcome_text, ack_text, pending_text, reply_text, party_text};
 
-use itoa::Buffer;
-use upi_base::setup::write_account;
-use upi_base::{AccountRef, Answer, Code, Leg, MsgWhy, NoMemory, Outcome, Paise, Party, Policy, Reply};
+use upi_base::{
+    AccountRef, Answer, Code, Leg, MsgWhy, NoMemory, Outcome, Paise, Party, Policy, Reply,
+    write_account, write_number,
+};
 
 /// Appends bytes.
 pub(crate) fn push(text: &[u8], out: &mut Vec<u8>) -> Result<(), NoMemory>
@@ -30,8 +31,8 @@ pub(crate) fn push_word(word: &[u8], out: &mut Vec<u8>) -> Result<(), NoMemory>
 pub(crate) fn push_number(n: u64, out: &mut Vec<u8>) -> Result<(), NoMemory>
     ensures { OnOk result (out.new.items ≡ out.old.items ++ spaced (decimal n)) }
 {
-    let mut buffer = Buffer::new();
-    push_word(buffer.format(n).as_bytes(), out)
+    out.push(b' ')?;
+    write_number(n, out)
 }
 
 /// Appends a space and a sum.

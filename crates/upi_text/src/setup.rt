@@ -9,7 +9,9 @@ ghost use Rattle.upi_text.specs.Setup.{bank_line, psp_line, flag_of, flags_of, a
 use crate::refusal::Refusal;
 use crate::words::{word, word_count};
 use std::str;
-use upi_base::{AccountRef, Addr, BankCode, Moment, Paise, Policy, PspName, SetupLine, Why, setup_fault};
+use upi_base::{
+    AccountRef, Addr, BankCode, Moment, Paise, Policy, PspName, SetupLine, Why, setup_fault,
+};
 
 /// What a line of the setup says.
 #[derive(Clone, Drop, PartialEq, Eq)]

@@ -1,11 +1,10 @@
 //! The setup that lines of a script make, with the text that is written for them.
 ghost use Rattle.std.specs.Prelude.{◌≡◌, ◌++◌, OnOk};
-ghost use Rattle.upi_text.specs.SetupText.{flags_text, line_text, setup_text_of};
+ghost use Rattle.upi_text.specs.SetupText.{flags_text, line_text, start_text, setup_text_of};
 
 use crate::pieces::{policy_word, push, push_account, push_sum, push_word};
 use crate::refusal::Refusal;
 use crate::setup::{SetupRead, is_utf8, part_line};
-use crate::stub::write_moment;
 use crate::words::is_skipped;
 use std::alloc::Global;
 use std::marker::Model;
@@ -163,12 +162,12 @@ fn push_line(line: &SetupLine, out: &mut Vec<u8>) -> Result<(), NoMemory>
     }
 }
 
+// Appends the line of START without its line feed.
 fn push_start(start: Moment, out: &mut Vec<u8>) -> Result<(), NoMemory>
-    ensures { OnOk result (out.new.items ≡ out.old.items ++ setup_text_of (SetupRead.Start start)) }
+    ensures { OnOk result (out.new.items ≡ out.old.items ++ start_text start) }
 {
     push(b"START ", out)?;
-    write_moment(start, out)?;
-    push(b"\n", out)
+    start.write(out)
 }
 
 // Appends what is written for a line.
@@ -177,7 +176,10 @@ fn push_read(read: &SetupRead, out: &mut Vec<u8>) -> Result<(), NoMemory>
 {
     match read {
         SetupRead::Skipped => Ok(()),
-        SetupRead::Start(start) => push_start(*start, out),
+        SetupRead::Start(start) => {
+            push_start(*start, out)?;
+            push(b"\n", out)
+        }
         SetupRead::Line(line) => {
             push_line(line, out)?;
             push(b"\n", out)
