@@ -1,5 +1,5 @@
 -- The lines of a journal: an E line of each entry, and an M line of each message that it sends.
-use Rattle.std.specs.Prelude.{ℕ, ◌+◌, List, [], ◌∷◌, ◌++◌, codes, decimal}
+use Rattle.std.specs.Prelude.{ℕ, ◌+◌, List, [], ◌∷◌, ◌++◌, length, codes, decimal}
 use Rattle.upi_base.specs.declared.entry.Call.{Call}
 use Rattle.upi_base.specs.declared.entry.Call.TheVariants as call
 use Rattle.upi_base.specs.declared.entry.Entry.{Entry}
@@ -50,3 +50,13 @@ entry_line place e = codes "E" ++ spaced (decimal place) ++ spaced (decimal e.ca
 -- the lines of an entry at a place, whose messages are numbered from `first`
 abbrev pub entry_lines : Entry → ℕ → ℕ → List ℕ
 entry_lines e place first = entry_line place e ++ sent_lines first e.sent
+
+-- how many messages a history sent
+abbrev pub sent_count : List Entry → ℕ
+sent_count [] = 0
+sent_count (e ∷ before) = sent_count before + length e.sent
+
+-- the lines of a history, the latest entry first: places and messages are counted from 1
+abbrev pub history_text : List Entry → List ℕ
+history_text [] = []
+history_text (e ∷ before) = history_text before ++ entry_lines e (length before + 1) (sent_count before + 1)

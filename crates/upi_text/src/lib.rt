@@ -14,3 +14,6 @@ pub use refusal::Refusal;
 pub use setup::SetupRead;
 pub use setup_text::SetupText;
 pub use words::{from_word, is_skipped, number, word, word_count};
+
+#[cfg(test)]
+mod tests;
