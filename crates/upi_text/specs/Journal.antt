@@ -10,7 +10,7 @@ use Rattle.upi_base.specs.declared.sent.Body.TheVariants as body
 use Rattle.upi_base.specs.declared.sent.Sent.{Sent}
 use Rattle.upi_base.specs.Money.{paise_text}
 use Rattle.upi_base.specs.Shards.{account_text}
-use Rattle.upi_text.specs.Stub.{message_text}
+use Rattle.upi_msg.specs.Tree.{message_text}
 use Rattle.upi_text.specs.Pieces.{spaced, leg_text, fault_text, yes_text, answer_text, outcome_text, reply_text, party_text}
 
 abbrev pub body_text : Body → List ℕ

@@ -7,7 +7,6 @@ use crate::pieces::{
     fault_word, leg_word, party_word, push, push_account, push_answer, push_number, push_outcome,
     push_reply, push_sum, push_word, yes_word,
 };
-use crate::stub::push_message;
 use std::alloc::Global;
 use upi_base::{Body, Call, Entry, Input, NoMemory, PspName, Sent, TxnId};
 
@@ -98,7 +97,12 @@ fn push_all(first: u64, sent: &[Sent], out: &mut Vec<u8>) -> Result<(), NoMemory
 }
 
 // Appends a space and what a PSP sends.
-fn push_heard(psp: &PspName, input: &Input, out: &mut Vec<u8>) -> Result<(), NoMemory>
+fn push_heard(
+    alloc: Global,
+    psp: &PspName,
+    input: &Input,
+    out: &mut Vec<u8>,
+) -> Result<(), NoMemory>
     ensures { OnOk result (out.new.items ≡ out.old.items ++ spaced (heard_text psp.now input.now)) }
 {
     match input {
@@ -106,7 +110,7 @@ fn push_heard(psp: &PspName, input: &Input, out: &mut Vec<u8>) -> Result<(), NoM
             push_word(b"HEAR", out)?;
             push_word(psp.bytes(), out)?;
             push(b" ", out)?;
-            push_message(message, out)
+            upi_msg::text(alloc, message, out)
         }
         Input::Bad(bad) => {
             push_word(b"BAD", out)?;
@@ -118,11 +122,11 @@ fn push_heard(psp: &PspName, input: &Input, out: &mut Vec<u8>) -> Result<(), NoM
 }
 
 // Appends a space and a call.
-fn push_call(call: &Call, out: &mut Vec<u8>) -> Result<(), NoMemory>
+fn push_call(alloc: Global, call: &Call, out: &mut Vec<u8>) -> Result<(), NoMemory>
     ensures { OnOk result (out.new.items ≡ out.old.items ++ spaced (call_text call.now)) }
 {
     match call {
-        Call::Hear { psp, input } => push_heard(psp, input, out),
+        Call::Hear { psp, input } => push_heard(alloc, psp, input, out),
         Call::Deliver(n) => {
             push_word(b"DELIVER", out)?;
             push_number(*n, out)
@@ -140,14 +144,14 @@ fn push_call(call: &Call, out: &mut Vec<u8>) -> Result<(), NoMemory>
 }
 
 // Appends the E line of an entry.
-fn push_entry(place: u64, entry: &Entry, out: &mut Vec<u8>) -> Result<(), NoMemory>
+fn push_entry(alloc: Global, place: u64, entry: &Entry, out: &mut Vec<u8>) -> Result<(), NoMemory>
     ensures { OnOk result (out.new.items ≡ out.old.items ++ entry_line_of place entry.now) }
 {
     push(b"E", out)?;
     push_number(place, out)?;
     push_number(entry.caller, out)?;
     push_number(entry.at.get(), out)?;
-    push_call(&entry.call, out)?;
+    push_call(alloc, &entry.call, out)?;
     push(b" =", out)?;
     push_reply(entry.reply, out)?;
     push(b"\n", out)
@@ -167,7 +171,7 @@ pub fn entry_text(
     ensures err { OnErr result (out.new.items ≡ out.old.items) }
 {
     let mut text = Vec::new(alloc);
-    push_entry(place, entry, &mut text)?;
+    push_entry(alloc, place, entry, &mut text)?;
     push_all(first, entry.sent.items(), &mut text)?;
     out.extend_from_slice(&text)?;
     Ok(())

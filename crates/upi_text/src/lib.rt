@@ -6,7 +6,6 @@ mod pieces;
 pub mod refusal;
 pub mod setup;
 pub mod setup_text;
-pub mod stub;
 pub mod words;
 
 pub use journal::entry_text;
