@@ -1,5 +1,5 @@
 -- The words of which lines are made.
-use Rattle.std.specs.Prelude.{ℕ, Bool, true, false, if◌then◌else◌, List, [], ◌∷◌, ◌++◌, codes, Option, Some, None}
+use Rattle.std.specs.Prelude.{ℕ, Bool, if◌then◌else◌, List, ◌∷◌, ◌++◌, codes, Option, Some, None}
 use Rattle.upi_base.specs.declared.code.Answer.{Answer}
 use Rattle.upi_base.specs.declared.code.Answer.TheVariants as answer
 use Rattle.upi_base.specs.declared.code.Code.{Code}

@@ -3,8 +3,8 @@ use std::alloc::Global;
 use std::test::Fail;
 use upi_base::{
     AccountRef, Addr, Answer, AuthQuestion, BadMessage, BankCode, Body, Boxed, Call, Code, Entry,
-    Input, Kind, Leg, Moment, MsgId, MsgWhy, NoMemory, Outcome, Paise, Party, PathText, PspName,
-    Reply, Sent, SentList, TxnId, Why,
+    Head, Input, Kind, Leg, Message, Moment, MsgId, MsgWhy, NoMemory, OrgId, Outcome, Paise, Party,
+    PathText, PayReq, PspName, Reply, Sent, SentList, TxnId, Why,
 };
 
 const SETUP: &[u8] =
@@ -217,6 +217,36 @@ fn calls(rt: HostRuntime) -> Result<(), Fail> {
     assert_eq!(rt;
         line.as_slice(),
         b"E 12 3 1704067200 LATE T1 = DONE\n".as_slice()
+    );
+    Ok(())
+}
+
+#[test]
+fn a_message_is_heard(rt: HostRuntime) -> Result<(), Fail> {
+    let request = PayReq {
+        head: Head {
+            msg_id: MsgId::read(b"A1").ok_or(NoMemory)?,
+            org: OrgId::read(b"alpha").ok_or(NoMemory)?,
+            ts: Moment::of(1_704_067_200).ok_or(NoMemory)?,
+        },
+        kind: Kind::Pay,
+        txn: txn()?,
+        note: None,
+        expire: None,
+        payer: Addr::read(b"ann@alpha").ok_or(NoMemory)?,
+        payee: Addr::read(b"bob@beta").ok_or(NoMemory)?,
+        amount: sum()?,
+        payer_ac: None,
+        payee_ac: None,
+    };
+    let hear = Call::Hear {
+        psp: psp()?,
+        input: Input::Good(Message::Pay(Boxed::new(rt.alloc(), request)?)),
+    };
+    let line = line_of(rt.alloc(), hear, Reply::Ack(None))?;
+    assert_eq!(rt;
+        line.as_slice(),
+        b"E 12 3 1704067200 HEAR alpha {\"ReqPay\":{\"Head\":{\"msgId\":\"A1\",\"orgId\":\"alpha\",\"ts\":\"2024-01-01T05:30:00+05:30\",\"ver\":\"1.0\"},\"Payees\":{\"Payee\":[{\"addr\":\"bob@beta\"}]},\"Payer\":{\"Amount\":{\"curr\":\"INR\",\"value\":\"30.00\"},\"addr\":\"ann@alpha\"},\"Txn\":{\"id\":\"T1\",\"type\":\"PAY\"}}} = OK\n".as_slice()
     );
     Ok(())
 }
