@@ -3,3 +3,4 @@ pub mod Facts
 pub mod Openings
 pub mod Backed
 pub mod Told
+pub mod Deliveries
