@@ -122,7 +122,6 @@ passes S openings psp r e =
       most = n.1;
       room = below (count_by (in_shard (txn_shard r.txn)) openings) g.0;
     }
-
   where
     below : (n : ℕ) → nat_le 4096 n ≡ false → n < 4096
     below n e = grind (arith, nat_tests)
@@ -227,3 +226,65 @@ shards_have_room S (e ∷ h) s = go (shards_have_room S h s) (opens S (opened S 
     go : count_by (in_shard s) (opened S h) ≤ 4096 → (o : Option Opening) → opens S (opened S h) (is_closed h) (event_of h e.call) e.at ≡ o → count_by (in_shard s) (joined (opened S h) o) ≤ 4096
     go le None is = le
     go le (Some q) is = room_more s (opened S h) q le (opened_passes S (opened S h) (event_of h e.call) e.at q (opens_is S (opened S h) (is_closed h) (event_of h e.call) e.at q is)).room
+
+-- the openings of the shards below a number
+abbrev below : ℕ → List Opening → ℕ
+below k xs = count_by (λ (o : Opening). nat_lt (txn_shard o.terms.txn) k) xs
+
+one_shard : (n k : ℕ) → cond (nat_lt n (suc k)) 1 0 ≡ cond (nat_lt n k) 1 0 + cond (n == k) 1 0
+one_shard n k = go (nat_lt n (suc k)) (nat_lt n k) (n == k) refl refl refl
+  where
+    go : (a b c : Bool) → nat_lt n (suc k) ≡ a → nat_lt n k ≡ b → (n == k) ≡ c → cond a 1 0 ≡ cond b 1 0 + cond c 1 0
+    go true true true x y z = absurd (grind (arith, nat_tests))
+    go true true false x y z = omega arith
+    go true false true x y z = omega arith
+    go true false false x y z = absurd (grind (arith, nat_tests))
+    go false true c x y z = absurd (grind (arith, nat_tests))
+    go false false true x y z = absurd (grind (arith, nat_tests))
+    go false false false x y z = omega arith
+
+below_more : (k : ℕ) (xs : List Opening) → below (suc k) xs ≡ below k xs + count_by (in_shard k) xs
+below_more k [] = refl
+below_more k (x ∷ xs) =
+    omega (
+      arith,
+      below_more k xs,
+      one_shard (txn_shard x.terms.txn) k,
+      sum_by-cons (λ (o : Opening). cond (nat_lt (txn_shard o.terms.txn) (suc k)) 1 0) x xs,
+      sum_by-cons (λ (o : Opening). cond (nat_lt (txn_shard o.terms.txn) k) 1 0) x xs,
+      sum_by-cons (λ (o : Opening). cond (in_shard k o) 1 0) x xs,
+    )
+
+shard_small : (h : ℕ) (bs : List ℕ) → shard_after h bs < 16
+shard_small h [] = omega arith
+shard_small h (b ∷ bs) = shard_small ((131 * h + b) % 65_521) bs
+
+one_if : (b : Bool) → b ≡ true → ◌≡◌ {A = ℕ} 1 (cond b 1 0)
+one_if true e = refl
+one_if false e = absurd cc
+
+zero_if : (b : Bool) → b ≡ false → ◌≡◌ {A = ℕ} 0 (cond b 1 0)
+zero_if true e = absurd cc
+zero_if false e = refl
+
+under_16 : (n : ℕ) → n < 16 → nat_lt n 16 ≡ true
+under_16 n lt = grind (arith, nat_tests)
+
+under_0 : (n : ℕ) → nat_lt n 0 ≡ false
+under_0 n = grind (arith, nat_tests)
+
+below_all : (xs : List Opening) → length xs ≡ below 16 xs
+below_all [] = refl
+below_all (x ∷ xs) =
+    omega (arith, below_all xs, sum_by-cons (λ (o : Opening). cond (nat_lt (txn_shard o.terms.txn) 16) 1 0) x xs, one_if (nat_lt (txn_shard x.terms.txn) 16) (under_16 (txn_shard x.terms.txn) (shard_small 0 x.terms.txn)))
+
+below_none : (xs : List Opening) → below 0 xs ≡ 0
+below_none [] = refl
+below_none (x ∷ xs) = omega (arith, below_none xs, sum_by-cons (λ (o : Opening). cond (nat_lt (txn_shard o.terms.txn) 0) 1 0) x xs, zero_if (nat_lt (txn_shard x.terms.txn) 0) (under_0 (txn_shard x.terms.txn)))
+
+below_room : (xs : List Opening) → ((s : ℕ) → count_by (in_shard s) xs ≤ 4096) → (k : ℕ) → below k xs ≤ 4096 * k
+below_room xs room zero = let n = below_none xs in omega (arith, n)
+below_room xs room (suc k) = omega (arith, below_more k xs, room k, below_room xs room k)
+
+pub openings_have_room : OpeningsHaveRoom
+openings_have_room S h = let a = below_all (opened S h) in let b = below_room (opened S h) (shards_have_room S h) 16 in omega (arith, a, b)

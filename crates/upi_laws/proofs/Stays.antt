@@ -92,10 +92,6 @@ first_found fits (e ∷ before) x h = elim (or_cases (first fits before) (fits b
   | inr new ↦ record { later = []; entry = e; before = before; splits = refl; none = new.0; fitted = new.1 }
 ]
 
-
-
-
-
 -- ---- openings
 
 pub pick_append : {A X : Type 0} (f : A → Option X) (xs ys : List A) → pick f (xs ++ ys) ≡ option_or (pick f xs) (pick f ys)

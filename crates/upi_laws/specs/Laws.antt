@@ -1,5 +1,5 @@
 -- The laws of histories: what holds of every list of entries, legal or not.
-use Rattle.std.specs.Prelude.{ℕ, ◌≡◌, ◌≤◌, Bool, true, false, List, [], ◌∷◌, ◌++◌, length, Option, Some, None, is_some}
+use Rattle.std.specs.Prelude.{ℕ, ◌≡◌, ◌≤◌, ◌↔◌, reverse, ◌+◌, Bool, true, false, ◌&&◌, if◌then◌else◌, List, [], ◌∷◌, ◌++◌, length, Option, Some, None, is_some, is_none}
 use Rattle.std.specs.Option.{option_or, option_and_then}
 use Rattle.std.specs.List.{AllByRecursion, count_by}
 use Rattle.std.specs.Str.{bytes_eq}
@@ -26,6 +26,7 @@ use Rattle.upi_laws.specs.Places.{one_account, in_shard, opens, opened, if_of, o
 use Rattle.upi_laws.specs.Outcomes.{outcome_of}
 use Rattle.upi_laws.specs.Postings.{arrival, answer, arrives, reversal_due, post}
 use Rattle.upi_laws.specs.Dues.{acknowledges, acknowledged}
+use Rattle.upi_laws.specs.Legal.{IsRight, Legal, LegalForward}
 
 -- what is there stays, the same
 abbrev pub Stays : {X : Type 0} → Option X → Option X → Type 0
@@ -131,13 +132,22 @@ pub record OneComes (S : List SetupLine) (t : List ℕ) (e : Entry) (before : Li
   pub debit_uncaused : debit S t before ≡ None → cause S t before ≡ None
   pub credit_uncaused : (d : LegEnd) → credit S t before ≡ None → credit S t (e ∷ before) ≡ Some d → cause S t before ≡ None
 
--- it comes with the entry
-abbrev pub Comes : {X : Type 0} → Option X → Option X → Type 0
-Comes before now = (before ≡ None) × (is_some now ≡ true)
-
 pub record OneEntry (S : List SetupLine) (t : List ℕ) (e : Entry) (before : List Entry) : Type 0 where
   pub more : IsOneMore S t e before
   pub one : OneComes S t e before
+
+-- 1 where it is there now and was not before
+abbrev pub new : {X : Type 0} → Option X → Option X → ℕ
+new before now = if is_none before && is_some now then 1 else 0
+
+-- how many places of the transaction come with the entry
+abbrev pub coming : List SetupLine → List ℕ → Entry → List Entry → ℕ
+coming S t e before =
+    new (opening S t before) (opening S t (e ∷ before)) + new (decision S t before) (decision S t (e ∷ before)) + new (debit S t before) (debit S t (e ∷ before))
+    + new (credit S t before) (credit S t (e ∷ before)) + new (reversal S t before) (reversal S t (e ∷ before))
+
+abbrev pub AtMostOneComes : Type 0
+AtMostOneComes = (S : List SetupLine) (t : List ℕ) (e : Entry) (before : List Entry) → coming S t e before ≤ 1
 
 abbrev pub OneEntryAdds : Type 0
 OneEntryAdds = (S : List SetupLine) (t : List ℕ) (e : Entry) (before : List Entry) → OneEntry S t e before
@@ -182,3 +192,24 @@ ClosedIsUntouched = (S : List SetupLine) (t : List ℕ) (e : Entry) (before : Li
 -- and nothing arrives nor is answered
 abbrev pub ClosedAnswersStand : Type 0
 ClosedAnswersStand = (S : List SetupLine) (e : Entry) (before : List Entry) → is_closed before ≡ true → (opened S (e ∷ before) ≡ opened S before) × (answer S (e ∷ before) ≡ answer S before)
+
+-- ---- legal histories
+
+-- a prefix of a legal history is legal
+abbrev pub LegalBefore : Type 0
+LegalBefore = (S : List SetupLine) (later h : List Entry) → Legal S (later ++ h) → Legal S h
+
+-- each entry of a legal history is right behind what stands before it
+abbrev pub LegalAt : Type 0
+LegalAt = (S : List SetupLine) (later : List Entry) (e : Entry) (before : List Entry) → Legal S (later ++ e ∷ before) → IsRight S before e
+
+-- a history with one more entry is legal exactly where the history is and the entry is right behind it
+abbrev pub LegalMore : Type 0
+LegalMore = (S : List SetupLine) (e : Entry) (h : List Entry) → Legal S (e ∷ h) ↔ (Legal S h × IsRight S h e)
+
+-- the two readings of legal are one
+abbrev pub LegalBothWays : Type 0
+LegalBothWays = (S : List SetupLine) (H : List Entry) → Legal S (reverse H) ↔ LegalForward S H
+
+abbrev pub LegalForwardMore : Type 0
+LegalForwardMore = (S : List SetupLine) (H : List Entry) (e : Entry) → LegalForward S (H ++ e ∷ []) ↔ (LegalForward S H × IsRight S (reverse H) e)

@@ -9,4 +9,5 @@ pub mod Legal
 pub mod Settlement
 pub mod Owners
 pub mod Laws
+pub mod Sound
 pub mod Backed

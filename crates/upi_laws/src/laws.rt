@@ -1,5 +1,5 @@
 //! The laws of histories, each as a function with an empty body: its contract is the law.
-ghost use Rattle.upi_laws.specs.Laws.{AllPlacesStay, OpeningsGrow, OutcomeStays, AllPlacesFollow};
+ghost use Rattle.upi_laws.specs.Laws.{AllPlacesStay, OpeningsGrow, OutcomeStays, AllPlacesFollow, OpeningsAreFound, OpeningIsNamed, OpeningIsFirst, OpeningsAreAllowed, ShardsHaveRoom, OpeningsHaveRoom, RunningIsUncut, ClosedHaveOutcomes, OneEntryAdds, AtMostOneComes, OthersAreUntouched, ClosedIsUntouched, ClosedAnswersStand, LegalBefore, LegalAt, LegalMore, LegalBothWays, LegalForwardMore};
 
 /// A place that was found stays found, whatever comes later.
 pub fn places_stay()
@@ -19,4 +19,94 @@ pub fn outcome_stays()
 /// Each place stands on those that must come before it.
 pub fn places_follow()
     ensures { AllPlacesFollow }
+{}
+
+/// No two openings have one name.
+pub fn openings_are_found()
+    ensures { OpeningsAreFound }
+{}
+
+/// What a name finds has the name.
+pub fn opening_is_named()
+    ensures { OpeningIsNamed }
+{}
+
+/// A transaction is opened at the first entry that opens it.
+pub fn opening_is_first()
+    ensures { OpeningIsFirst }
+{}
+
+/// An opened payment is between two known accounts, and within the limits of an amount.
+pub fn openings_are_allowed()
+    ensures { OpeningsAreAllowed }
+{}
+
+/// A shard opens at most 4,096 transactions.
+pub fn shards_have_room()
+    ensures { ShardsHaveRoom }
+{}
+
+/// A history opens at most 65,536 transactions.
+pub fn openings_have_room()
+    ensures { OpeningsHaveRoom }
+{}
+
+/// Before a Close nothing ends by the close.
+pub fn running_is_uncut()
+    ensures { RunningIsUncut }
+{}
+
+/// At the close, and behind it, each opened transaction has an outcome.
+pub fn closed_have_outcomes()
+    ensures { ClosedHaveOutcomes }
+{}
+
+/// What an entry adds to a transaction, each place by what stood before the entry.
+pub fn one_entry_adds()
+    ensures { OneEntryAdds }
+{}
+
+/// An entry is at most one place of a transaction.
+pub fn at_most_one_comes()
+    ensures { AtMostOneComes }
+{}
+
+/// An entry about one transaction leaves the others as they were.
+pub fn others_are_untouched()
+    ensures { OthersAreUntouched }
+{}
+
+/// Behind a Close nothing is decided.
+pub fn closed_is_untouched()
+    ensures { ClosedIsUntouched }
+{}
+
+/// Behind a Close nothing opens, and no leg is answered.
+pub fn closed_answers_stand()
+    ensures { ClosedAnswersStand }
+{}
+
+/// A prefix of a legal history is legal.
+pub fn legal_before()
+    ensures { LegalBefore }
+{}
+
+/// Each entry of a legal history is right behind those before it.
+pub fn legal_at()
+    ensures { LegalAt }
+{}
+
+/// A history with one entry more is legal exactly where it was, and the entry is right.
+pub fn legal_more()
+    ensures { LegalMore }
+{}
+
+/// The two readings of legal, latest first and latest last, are one.
+pub fn legal_both_ways()
+    ensures { LegalBothWays }
+{}
+
+/// One entry more, where the latest stands last.
+pub fn legal_forward_more()
+    ensures { LegalForwardMore }
 {}
