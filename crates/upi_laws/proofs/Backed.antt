@@ -245,7 +245,7 @@ on_backed S h e event.Close run is = tt
 
 -- ---- what a receiver answers
 
-same_leg_refl : (l : Leg) → same_leg l l ≡ true
+pub same_leg_refl : (l : Leg) → same_leg l l ≡ true
 same_leg_refl leg.Debit = refl
 same_leg_refl leg.Credit = refl
 same_leg_refl leg.Reversal = refl

@@ -1,5 +1,5 @@
 -- What a legal history has of an order or an answer that arrives.
-use Rattle.std.proofs.Common.{◌≡◌, ◌≢◌, ℕ, Bool, true, false, cond, List, [], ◌∷◌, ◌++◌, Option, Some, None, refl, sym, ◌∙◌, ap, subst, inl, inr, ◌⊎◌}
+use Rattle.std.proofs.Common.{◌≡◌, ◌≢◌, ℕ, ◌+◌, Bool, true, false, cond, List, [], ◌∷◌, ◌++◌, Option, Some, None, refl, sym, ◌∙◌, ap, subst, inl, inr, ◌⊎◌}
 use Rattle.std.specs.Prelude.{is_some, is_none, not, ◌&&◌, ◌||◌}
 use Rattle.std.specs.Option.{option_or, option_and_then, option_map}
 use Rattle.std.specs.Str.{bytes_eq}
@@ -38,10 +38,11 @@ use Rattle.upi_laws.specs.Places.{same_leg, opened, opening, decision, tells, en
 use Rattle.upi_laws.specs.Postings.{Answers, reversal_due, reversal_due_by, arrives_on, arrives, posted_at, post_leg, post, answer}
 use Rattle.upi_laws.specs.Replies.{order_answer}
 use Rattle.upi_laws.specs.Legal.{Legal}
-use Rattle.upi_laws.specs.Backed.{OrderPlaced, IsOrder, BackedBy, Backed, OrdersArePlaced, OrdersAreAnswered, AnswersStand, AnswerPlaced, EndAnswered, LegsAreAnswered, AllLegsAreAnswered}
+use Rattle.upi_laws.specs.Backed.{OrderPlaced, IsOrder, BackedBy, Backed, OrdersArePlaced, OrdersAreAnswered, AnswersStand, has_ended, AnswersEnd, AnswerPlaced, EndAnswered, LegsAreAnswered, AllLegsAreAnswered}
 use Rattle.upi_laws.proofs.Stays.{or_stays, or_cases, guarded, if_some, some_same, some_is, is_some_has, opening_stays_one, decision_stays, debit_stays, answer_stays}
 use Rattle.upi_laws.proofs.Facts.{decided_opened, due_debit_is, debit_approved, credit_debited, cause_from, cause_stays}
-use Rattle.upi_laws.proofs.Backed.{message_backed, placed_held, cause_held}
+use Rattle.upi_laws.proofs.Closing.{running_is_uncut}
+use Rattle.upi_laws.proofs.Backed.{same_leg_refl, message_backed, cause_held}
 
 -- ---- what was delivered
 
@@ -134,6 +135,7 @@ is_closing h (call.Deliver n) e = absurd (go (message_at h n) e)
     party_says (party.Psp p) what e = cc
     party_says (party.Bank b) what e = cc
     party_says party.Switch what e = cc
+
     body_says : (from : Party) (b : Body) → delivered from b ≡ event.Close → ⊥
     body_says from (body.RespAuth u amount word) e = party_says from _ e
     body_says from (body.Confirmed u) e = party_says from _ e
@@ -142,6 +144,7 @@ is_closing h (call.Deliver n) e = absurd (go (message_at h n) e)
     body_says from (body.ReqAuth _) e = cc
     body_says from (body.Result _ _ _ _) e = cc
     body_says from (body.Confirm _ _ _) e = cc
+
     go : (s : Option Sent) → read_message s ≡ event.Close → ⊥
     go None e = cc
     go (Some s) e = body_says s.from s.body e
@@ -209,9 +212,9 @@ none_is (Some x) e = absurd cc
 closing_placed : (S : List SetupLine) (e : Entry) (h : List Entry) (t : List ℕ) → is_closed h ≡ false → event_of h e.call ≡ event.Close → reversal_due S t h ≡ true → AnswerPlaced S (e ∷ h) t leg.Reversal
 closing_placed S e h t run is due = elim (either_true (is_some (due_debit (decision S t h)) && is_none (debit S t h)) (is_some (cause S t h) && is_none (reversal S t h)) due) [
   | inl waits ↦
-    let w = and_parts (is_some (due_debit (decision S t h))) (is_none (debit S t h)) waits in
-    let k = is_some_has (due_debit (decision S t h)) w.0 in
-    inr ((λ i. option_or (none_is (debit S t h) w.1 i) (ends t leg.Debit (run i) (k.1 i) (is i) e.at)))
+      let w = and_parts (is_some (due_debit (decision S t h))) (is_none (debit S t h)) waits in
+      let k = is_some_has (due_debit (decision S t h)) w.0 in
+      inr ((λ i. option_or (none_is (debit S t h) w.1 i) (ends t leg.Debit (run i) (k.1 i) (is i) e.at)))
   | inr waits ↦ inl (cause_held S t e h (and_parts (is_some (cause S t h)) (is_none (reversal S t h)) waits).0)
 ]
 
@@ -235,9 +238,9 @@ answer_placed S [] t l a legal e = absurd cc
 answer_placed S (x ∷ h) t l a legal e = elim (or_cases (answer S h t l) _ a e) [
   | inl old ↦ answer_placed_stays S x h t l (answer_placed S h t l a legal.0 old)
   | inr new ↦
-    let c = if_some (arrives t l (is_closed h) (reversal_due S t h) (event_of h x.call)) (post S (opened S h) (answer S h) t l) a new.1 in
-    let p = and_parts (not (is_closed h)) (arrives_on t l (reversal_due S t h) (event_of h x.call)) c.0 in
-    arrival_placed S x h t l (event_of h x.call) legal.0 refl (not-true (is_closed h) p.0) p.1
+      let c = if_some (arrives t l (is_closed h) (reversal_due S t h) (event_of h x.call)) (post S (opened S h) (answer S h) t l) a new.1 in
+      let p = and_parts (not (is_closed h)) (arrives_on t l (reversal_due S t h) (event_of h x.call)) c.0 in
+      arrival_placed S x h t l (event_of h x.call) legal.0 refl (not-true (is_closed h) p.0) p.1
 ]
 
 -- ---- how a leg was answered that ended
@@ -324,9 +327,9 @@ caused_opened : (S : List SetupLine) (h : List Entry) (t : List ℕ) (c : Code) 
 caused_opened S h t c e = elim (cause_from (debit S t h) (credit S t h) c e) [
   | inl late ↦ let y = debit_approved S t h ended.Late late.0 in decided_opened S t h (decided.Yes y.0) y.1
   | inr declined ↦
-    let d = credit_debited S t h (ended.Declined c) declined in
-    let y = debit_approved S t h (ended.Posted d.0) d.1 in
-    decided_opened S t h (decided.Yes y.0) y.1
+      let d = credit_debited S t h (ended.Declined c) declined in
+      let y = debit_approved S t h (ended.Posted d.0) d.1 in
+      decided_opened S t h (decided.Yes y.0) y.1
 ]
 
 none_so : {X : Type 0} (o : Option X) → o ≡ None → is_none o ≡ true
@@ -353,8 +356,8 @@ reversal_answered S [] t k legal is = absurd cc
 reversal_answered S (e ∷ h) t k legal is = elim (or_cases (reversal S t h) _ k is) [
   | inl old ↦ some_stays S e h t leg.Reversal (reversal_answered S h t k legal.0 old)
   | inr new ↦
-    let g = guarded (is_closed h) (option_and_then (λ (c : Code). reverses_on t (event_of h e.call) e.at) (cause S t h)) k new.1 in
-    option_and_then_some (λ (c : Code). reverses_on t (event_of h e.call) e.at) (cause S t h) k g.1 (λ c why fit. reverses_answered S e h t (event_of h e.call) c k legal.0 g.0 refl new.0 why fit)
+      let g = guarded (is_closed h) (option_and_then (λ (c : Code). reverses_on t (event_of h e.call) e.at) (cause S t h)) k new.1 in
+      option_and_then_some (λ (c : Code). reverses_on t (event_of h e.call) e.at) (cause S t h) k g.1 (λ c why fit. reverses_answered S e h t (event_of h e.call) c k legal.0 g.0 refl new.0 why fit)
 ]
 
 -- only the close ends a leg so
@@ -381,12 +384,12 @@ cut_answered S [] t is = absurd cc
 cut_answered S (e ∷ h) t is = elim (or_cases (debit S t h) _ ended.Close is) [
   | inl old ↦ some_stays S e h t leg.Reversal (cut_answered S h t old)
   | inr new ↦
-    let g = guarded (is_closed h) (option_and_then (ends_on t leg.Debit (event_of h e.call) e.at) (due_debit (decision S t h))) ended.Close new.1 in
-    option_and_then_some (ends_on t leg.Debit (event_of h e.call) e.at) (due_debit (decision S t h)) ended.Close g.1 (λ due is_due fit.
-    let y = due_debit_is (decision S t h) due is_due in
-    let o = decided_opened S t h (decided.Yes y.0) y.1 in
-    let waits : (is_some (due_debit (decision S t h)) && is_none (debit S t h)) ≡ true = and_from (is_some (due_debit (decision S t h))) (is_none (debit S t h)) (some_is (due_debit (decision S t h)) due is_due) (none_so (debit S t h) new.0) in
-    close_reverses S e h t o.0 g.0 (cut_closes t leg.Debit (event_of h e.call) e.at due fit) (ap (λ (b : Bool). b || (is_some (cause S t h) && is_none (reversal S t h))) waits) o.1)
+      let g = guarded (is_closed h) (option_and_then (ends_on t leg.Debit (event_of h e.call) e.at) (due_debit (decision S t h))) ended.Close new.1 in
+      option_and_then_some (ends_on t leg.Debit (event_of h e.call) e.at) (due_debit (decision S t h)) ended.Close g.1 (λ due is_due fit.
+      let y = due_debit_is (decision S t h) due is_due in
+      let o = decided_opened S t h (decided.Yes y.0) y.1 in
+      let waits : (is_some (due_debit (decision S t h)) && is_none (debit S t h)) ≡ true = and_from (is_some (due_debit (decision S t h))) (is_none (debit S t h)) (some_is (due_debit (decision S t h)) due is_due) (none_so (debit S t h) new.0) in
+      close_reverses S e h t o.0 g.0 (cut_closes t leg.Debit (event_of h e.call) e.at due fit) (ap (λ (b : Bool). b || (is_some (cause S t h) && is_none (reversal S t h))) waits) o.1)
 ]
 
 pub legs_are_answered : AllLegsAreAnswered
@@ -397,3 +400,29 @@ legs_are_answered S t h legal = record {
   reversed = λ k e. reversal_answered S h t k legal e;
   cut = λ e. cut_answered S h t e;
 }
+
+-- ---- an answer that arrives before a Close ends its leg
+
+tells_own : (t : List ℕ) (l : Leg) (a : Answer) → tells t l (event.Answered t l a) ≡ Some a
+tells_own t l a = rw ((bytes_eq-Decides t t).1 refl, same_leg_refl l) refl
+
+ends_own : (t : List ℕ) (l : Leg) (a : Answer) (now due : ℕ) → ends t l false (Some due) (event.Answered t l a) now ≡ Some (end_told now a)
+ends_own t l a now due = ap (option_map (end_told now)) (tells_own t l a)
+
+ended_by : (S : List SetupLine) (h : List Entry) (e : Entry) (t : List ℕ) (l : Leg) (a : Answer) → is_closed h ≡ false → event_of h e.call ≡ event.Answered t l a → AnswerPlaced S h t l → has_ended S (e ∷ h) t l ≡ true
+ended_by S h e t leg.Debit a run is p =
+    let now : ends t leg.Debit (is_closed h) (due_debit (decision S t h)) (event_of h e.call) e.at ≡ Some (end_told e.at a) = (λ i. ends t leg.Debit (run i) (due_debit (p.1 i)) (is i) e.at) ∙ ends_own t leg.Debit a e.at (p.0 + 30) in
+    or_some (debit S t h) _ (some_is _ (end_told e.at a) now)
+ended_by S h e t leg.Credit a run is p =
+    let now : ends t leg.Credit (is_closed h) (due_credit (debit S t h)) (event_of h e.call) e.at ≡ Some (end_told e.at a) = (λ i. ends t leg.Credit (run i) (due_credit (p.1 i)) (is i) e.at) ∙ ends_own t leg.Credit a e.at (p.0 + 30) in
+    or_some (credit S t h) _ (some_is _ (end_told e.at a) now)
+ended_by S h e t leg.Reversal a run is p = elim p [
+  | inl why ↦
+      let c = is_some_has (cause S t h) why in
+      let now : reverses t (is_closed h) (cause S t h) (event_of h e.call) e.at ≡ Some e.at = (λ i. reverses t (run i) (c.1 i) (is i) e.at) ∙ ap (option_map (λ (a : Answer). e.at)) (tells_own t leg.Reversal a) in
+      or_some (reversal S t h) _ (some_is _ e.at now)
+  | inr cut ↦ absurd ((running_is_uncut S t h run).debit_uncut cut)
+]
+
+pub answers_end : AnswersEnd
+answers_end S h e t l a legal run is = ended_by S h e t l a run is (answer_placed S h t l a legal (answers_stand S h e.call t l a legal is))

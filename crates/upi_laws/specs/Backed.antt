@@ -224,3 +224,14 @@ pub record LegsAreAnswered (S : List SetupLine) (t : List ℕ) (h : List Entry) 
 
 abbrev pub AllLegsAreAnswered : Type 0
 AllLegsAreAnswered = (S : List SetupLine) (t : List ℕ) (h : List Entry) → Legal S h → LegsAreAnswered S t h
+
+-- Which statuses and messages on a transaction an entry has: at and behind the place at which the outcome comes each of them carries it, which is the outcome for good. Before that place each status is that there is none, and no message tells one.
+pub record OutcomeCarried (S : List SetupLine) (t : List ℕ) (later : List Entry) (e : Entry) (before : List Entry) : Type 0 where
+  pub status_carries : (x : Outcome) (y : Option Outcome) → outcome_of S t (e ∷ before) ≡ Some x → status_in t e.reply (event_of before e.call) ≡ Some y → y ≡ Some x
+  pub messages_carry : (x : Outcome) → outcome_of S t (e ∷ before) ≡ Some x → AllByRecursion (λ (s : Sent). (y : Outcome) → outcome_in t s.body ≡ Some y → y ≡ x) e.sent
+  pub for_good : (x : Outcome) → outcome_of S t (e ∷ before) ≡ Some x → outcome_of S t (later ++ e ∷ before) ≡ Some x
+  pub status_pends : (y : Option Outcome) → outcome_of S t (e ∷ before) ≡ None → status_in t e.reply (event_of before e.call) ≡ Some y → y ≡ None
+  pub none_tell : outcome_of S t (e ∷ before) ≡ None → AllByRecursion (λ (s : Sent). outcome_in t s.body ≡ None) e.sent
+
+abbrev pub OutcomesAreCarried : Type 0
+OutcomesAreCarried = (S : List SetupLine) (t : List ℕ) (later : List Entry) (e : Entry) (before : List Entry) → Legal S (later ++ e ∷ before) → OutcomeCarried S t later e before
