@@ -7,3 +7,4 @@ pub mod Beginnings
 pub mod Backed
 pub mod Told
 pub mod Deliveries
+pub mod Stages
