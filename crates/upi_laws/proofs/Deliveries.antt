@@ -361,7 +361,7 @@ reversal_answered S (e ∷ h) t k legal is = elim (or_cases (reversal S t h) _ k
 ]
 
 -- only the close ends a leg so
-cut_closes : (t : List ℕ) (l : Leg) (v : Event) (now due : ℕ) → ends_on t l v now due ≡ Some ended.Close → v ≡ event.Close
+pub cut_closes : (t : List ℕ) (l : Leg) (v : Event) (now due : ℕ) → ends_on t l v now due ≡ Some ended.Close → v ≡ event.Close
 cut_closes t l event.Close now due e = refl
 cut_closes t l (event.Late t') now due e = absurd (differs (cond_some _ ended.Late ended.Close e).1)
   where

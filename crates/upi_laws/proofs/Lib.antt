@@ -8,3 +8,4 @@ pub mod Backed
 pub mod Told
 pub mod Deliveries
 pub mod Stages
+pub mod Tellings
