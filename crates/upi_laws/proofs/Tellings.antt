@@ -4,7 +4,7 @@ use Rattle.std.specs.Prelude.{is_some, is_none, not, ◌&&◌, ◌||◌, nat_lt,
 use Rattle.std.specs.List.{count_by}
 use Rattle.std.specs.Option.{option_or, option_and_then, option_map}
 use Rattle.std.specs.Str.{bytes_eq}
-use Rattle.std.proofs.lemmas.Bool.{or_parts}
+use Rattle.std.proofs.lemmas.Bool.{or_parts, both_ways}
 use Rattle.std.proofs.lemmas.Option.{cond_some, option_and_then_some}
 use Rattle.std.proofs.lemmas.List.Recursion.{is_count_by}
 use Rattle.std.proofs.lemmas.Slice.Eq.{bytes_eq-Decides}
@@ -40,16 +40,16 @@ use Rattle.upi_laws.specs.declared.places.Decision.TheVariants as decided
 use Rattle.upi_laws.specs.declared.places.LegEnd.{LegEnd}
 use Rattle.upi_laws.specs.declared.places.LegEnd.TheVariants as ended
 use Rattle.upi_laws.specs.History.{sent, message_at, is_close, is_closed, event_of}
-use Rattle.upi_laws.specs.Places.{side, opened, opens_said, opening, yes_or_no, answers_in_time, due_answer, decides, decides_on, decision, ends, ends_on, due_debit, debit, due_credit, credit, cause_by, cause, reverses, reversal}
+use Rattle.upi_laws.specs.Places.{side, asked, opened, opens_said, opening, yes_or_no, answers_in_time, due_answer, decides, decides_on, decision, ends, ends_on, due_debit, debit, due_credit, credit, cause_by, cause, reverses_on, reverses, reversal}
 use Rattle.upi_laws.specs.Outcomes.{credit_outcome, debit_outcome, outcome_by, outcome_of}
 use Rattle.upi_laws.specs.Postings.{posted_at}
 use Rattle.upi_laws.specs.Dues.{confirms, due_confirm, due, is_due}
 use Rattle.upi_laws.specs.Replies.{order_answer}
-use Rattle.upi_laws.specs.Sending.{order_at, order, confirm, outcome_messages, anew, sent_on_opening, sent_on_decision, sent_on_debit, sent_on_credit, sent_on_reversal, again, sent_again, sent_by_places, sent_by_state, sent_by_txn, sent_on_late, sent_on_event, bank_answer, model_word, model_answer_by, receiver_answer, answered_message, receiver_answers, sent_on_said, sent_on, sent_by}
+use Rattle.upi_laws.specs.Sending.{question, order_at, order, confirm, outcome_messages, anew, sent_on_opening, sent_on_decision, sent_on_debit, sent_on_credit, sent_on_reversal, again, sent_again, sent_by_places, sent_by_state, sent_by_txn, sent_on_late, sent_on_event, bank_answer, model_word, model_answer_by, receiver_answer, answered_message, receiver_answers, sent_on_said, sent_on, sent_by}
 use Rattle.upi_laws.specs.Legal.{Legal}
 use Rattle.upi_laws.specs.Laws.{is_about}
 use Rattle.upi_laws.specs.Tellings.{IsStage, results, outcome_new, is_late_for, confirmed_again, EntryTellings, AllEntryTellings, ClosedAreSilent, running, OutcomeTellings, AllOutcomeTellings}
-use Rattle.upi_laws.proofs.Stays.{opening_stays_one}
+use Rattle.upi_laws.proofs.Stays.{none_some, opening_stays_one}
 use Rattle.upi_laws.proofs.Facts.{decided_opened}
 use Rattle.upi_laws.proofs.Openings.{opening_is_named}
 use Rattle.upi_laws.proofs.Steps.{opening_alone, others_are_untouched}
@@ -150,6 +150,70 @@ decides_closes S o (event.Late u) now e = absurd (differs (cond_some (bytes_eq u
 ends_closes : (t : List ℕ) (l : Leg) (v : Event) (now : ℕ) (due : Option ℕ) → ends t l false due v now ≡ Some ended.Close → v ≡ event.Close
 ends_closes t l v now due e = option_and_then_some (ends_on t l v now) due ended.Close e (λ k _ w. cut_closes t l v now k w)
 
+-- the outcome behind an entry, by what stood before it
+outcome_after : (S : List SetupLine) (h : List Entry) (e : Entry) (o : Opening) → is_closed h ≡ false → opening S o.terms.txn h ≡ Some o
+    → outcome_of S o.terms.txn (e ∷ h) ≡ outcome_by (Some o) (option_or (decision S o.terms.txn h) (decides S false (Some o) (event_of h e.call) e.at)) (option_or (debit S o.terms.txn h) (ends o.terms.txn leg.Debit false (due_debit (decision S o.terms.txn h)) (event_of h e.call) e.at))
+    (option_or (credit S o.terms.txn h) (ends o.terms.txn leg.Credit false (due_credit (debit S o.terms.txn h)) (event_of h e.call) e.at)) (is_some (option_or (reversal S o.terms.txn h) (reverses o.terms.txn false (cause S o.terms.txn h) (event_of h e.call) e.at)))
+outcome_after S h e o run begun =
+    let t = o.terms.txn in
+    let v = event_of h e.call in
+    let same_o : opening S t (e ∷ h) ≡ Some o = opening_stays_one S t e h o begun in
+    λ i. outcome_by (same_o i) (option_or (decision S t h) (decides S (run i) (begun i) v e.at)) (option_or (debit S t h) (ends t leg.Debit (run i) (due_debit (decision S t h)) v e.at))
+    (option_or (credit S t h) (ends t leg.Credit (run i) (due_credit (debit S t h)) v e.at)) (is_some (option_or (reversal S t h) (reverses t (run i) (cause S t h) v e.at)))
+
+-- what isn't opened has no outcome, nor has it behind the entry
+unopened_now : (S : List SetupLine) (t : List ℕ) (h : List Entry) → opening S t h ≡ None → outcome_of S t h ≡ None
+unopened_now S t h none = go (decision S t h) refl
+  where
+    go : (d : Option Decision) → decision S t h ≡ d → outcome_by (opening S t h) d (debit S t h) (credit S t h) (is_some (reversal S t h)) ≡ None
+    go None is = refl
+    go (Some d) is = let o = decided_opened S t h d is in absurd (none_some (opening S t h) o.0 none o.1)
+
+unopened_then : (S : List SetupLine) (t : List ℕ) (e : Entry) (h : List Entry) → opening S t h ≡ None → outcome_of S t (e ∷ h) ≡ None
+unopened_then S t e h none = ap (λ (d : Option Decision). outcome_by (opening S t (e ∷ h)) d (debit S t (e ∷ h)) (credit S t (e ∷ h)) (is_some (reversal S t (e ∷ h)))) (opening_alone S t e h none)
+
+unopened_untold : (S : List SetupLine) (t : List ℕ) (e : Entry) (h : List Entry) → opening S t h ≡ None → told_new 1 (outcome_of S t h) (outcome_of S t (e ∷ h)) ≡ 0
+unopened_untold S t e h none = told_new_same 1 (outcome_of S t h) (outcome_of S t (e ∷ h)) (unopened_then S t e h none ∙ sym (unopened_now S t h none))
+
+-- a payment that is asked for decides nothing of what is opened
+asked_untold : (S : List SetupLine) (t q : List ℕ) (r : PayReq) (e : Entry) (h : List Entry) → is_closed h ≡ false → event_of h e.call ≡ event.Heard q (said.Pay r) → told_new 1 (outcome_of S t h) (outcome_of S t (e ∷ h)) ≡ 0
+asked_untold S t q r e h run is = go (opening S t h) refl
+  where
+    or_none : {X : Type 0} (o p : Option X) → p ≡ None → option_or o p ≡ o
+    or_none None p e = e
+    or_none (Some x) p e = refl
+    then_none : {X Y : Type 0} (f : X → Option Y) (o : Option X) → ((x : X) → f x ≡ None) → option_and_then f o ≡ None
+    then_none f None e = refl
+    then_none f (Some x) e = e x
+    opened_same : (o : Opening) → opening S t h ≡ Some o → outcome_of S t (e ∷ h) ≡ outcome_of S t h
+    opened_same o begun =
+        let same_o : opening S t (e ∷ h) ≡ opening S t h = opening_stays_one S t e h o begun ∙ sym begun in
+        let same_a : decision S t (e ∷ h) ≡ decision S t h = or_none (decision S t h) _ ((λ i. decides S (run i) (begun i) (is i) e.at)) in
+        let same_d : debit S t (e ∷ h) ≡ debit S t h = or_none (debit S t h) _ ((λ i. ends t leg.Debit (run i) (due_debit (decision S t h)) (is i) e.at) ∙ then_none (ends_on t leg.Debit (event.Heard q (said.Pay r)) e.at) (due_debit (decision S t h)) (λ _. refl)) in
+        let same_c : credit S t (e ∷ h) ≡ credit S t h = or_none (credit S t h) _ ((λ i. ends t leg.Credit (run i) (due_credit (debit S t h)) (is i) e.at) ∙ then_none (ends_on t leg.Credit (event.Heard q (said.Pay r)) e.at) (due_credit (debit S t h)) (λ _. refl)) in
+        let same_back : reversal S t (e ∷ h) ≡ reversal S t h = or_none (reversal S t h) _ ((λ i. reverses t (run i) (cause S t h) (is i) e.at) ∙ then_none (λ (c : Code). reverses_on t (event.Heard q (said.Pay r)) e.at) (cause S t h) (λ _. refl)) in
+        λ i. outcome_by (same_o i) (same_a i) (same_d i) (same_c i) (is_some (same_back i))
+    go : (o : Option Opening) → opening S t h ≡ o → told_new 1 (outcome_of S t h) (outcome_of S t (e ∷ h)) ≡ 0
+    go None none = unopened_untold S t e h none
+    go (Some o) begun = told_new_same 1 (outcome_of S t h) (outcome_of S t (e ∷ h)) (opened_same o begun)
+
+-- an event that is about another transaction
+others_untold : (S : List SetupLine) (t : List ℕ) (e : Entry) (h : List Entry) (v : Event) → event_of h e.call ≡ v → is_about t v ≡ false → told_new 1 (outcome_of S t h) (outcome_of S t (e ∷ h)) ≡ 0
+others_untold S t e h v is other = told_new_same 1 (outcome_of S t h) (outcome_of S t (e ∷ h)) (others_are_untouched S t e h (ap (is_about t) is ∙ other)).outcome_same
+
+and_yes : (b : Bool) → (b && true && true) ≡ b
+and_yes true = refl
+and_yes false = refl
+
+not_due : (b x : Bool) (m : ℕ) → cond (b && x && false) m 0 ≡ 0
+not_due true true m = refl
+not_due true false m = refl
+not_due false x m = refl
+
+not_told : (b d : Bool) (m : ℕ) → cond (b && false && d) m 0 ≡ 0
+not_told true d m = refl
+not_told false d m = refl
+
 -- ---- what a place tells
 
 module _ (p : Sent → Bool) (t : List ℕ) (m : ℕ) (k : IsTold p t m) where
@@ -223,3 +287,131 @@ module _ (p : Sent → Bool) (t : List ℕ) (m : ℕ) (k : IsTold p t m) where
   state_tally S o (Some (decided.Yes at)) (Some (ended.Posted j)) (Some ended.Late) None v now n stage = refl
   state_tally S o (Some (decided.Yes at)) (Some (ended.Posted j)) (Some ended.Close) None v now n stage = refl
   state_tally S o _ _ _ _ v now n stage = absurd stage
+
+  -- ---- what an entry tells
+
+  txn_tally : (S : List SetupLine) (h : List Entry) (e : Entry) (o : Opening) → is_closed h ≡ false → (event_of h e.call ≡ event.Close → ⊥) → opening S o.terms.txn h ≡ Some o
+      → tally p (sent_by_txn S h o (event_of h e.call) e.at) ≡ told_new (cond (bytes_eq o.terms.txn t) 1 0) (outcome_of S o.terms.txn h) (outcome_of S o.terms.txn (e ∷ h))
+  txn_tally S h e o run open' begun =
+      let u = o.terms.txn in
+      let before : outcome_of S u h ≡ outcome_by (Some o) (decision S u h) (debit S u h) (credit S u h) (is_some (reversal S u h)) = λ i. outcome_by (begun i) (decision S u h) (debit S u h) (credit S u h) (is_some (reversal S u h)) in
+      let after = outcome_after S h e o run begun in
+      state_tally S o (decision S u h) (debit S u h) (credit S u h) (reversal S u h) (event_of h e.call) e.at open' (places_are_stages S u h) ∙ (λ i. told_new (cond (bytes_eq o.terms.txn t) 1 0) (sym before i) (sym after i))
+
+  -- an event about a transaction u: what it tells of t
+  about_tally : (S : List SetupLine) (h : List Entry) (e : Entry) (v : Event) (u : List ℕ) (o : Option Opening) → is_closed h ≡ false → event_of h e.call ≡ v → (v ≡ event.Close → ⊥) → (bytes_eq u t ≡ false → is_about t v ≡ false) → opening S u h ≡ o
+      → tally p (sent_on_event S h v e.at o) ≡ told_new 1 (outcome_of S t h) (outcome_of S t (e ∷ h))
+  about_tally S h e v u o run is open' other begun = go (bytes_eq u t) refl o begun
+    where
+      go : (b : Bool) → bytes_eq u t ≡ b → (o : Option Opening) → opening S u h ≡ o → tally p (sent_on_event S h v e.at o) ≡ told_new 1 (outcome_of S t h) (outcome_of S t (e ∷ h))
+      go true same None begun = sym (unopened_untold S t e h (ap (λ (x : List ℕ). opening S x h) (sym ((bytes_eq-Decides u t).0 same)) ∙ begun))
+      go false same None begun = sym (others_untold S t e h v is (other same))
+      go true same (Some o) begun =
+          let named : o.terms.txn ≡ u = opening_is_named S u h o begun in
+          let is_t : o.terms.txn ≡ t = named ∙ (bytes_eq-Decides u t).0 same in
+          let here = txn_tally S h e o run (λ c. open' (sym is ∙ c)) (ap (λ (x : List ℕ). opening S x h) named ∙ begun) in
+          ap (λ (v : Event). tally p (sent_by_txn S h o v e.at)) (sym is) ∙ here ∙ ap (λ (b : Bool). told_new (cond b 1 0) (outcome_of S o.terms.txn h) (outcome_of S o.terms.txn (e ∷ h))) ((bytes_eq-Decides o.terms.txn t).1 is_t)
+          ∙ ap (λ (x : List ℕ). told_new 1 (outcome_of S x h) (outcome_of S x (e ∷ h))) is_t
+      go false same (Some o) begun =
+          let named : o.terms.txn ≡ u = opening_is_named S u h o begun in
+          let here = txn_tally S h e o run (λ c. open' (sym is ∙ c)) (ap (λ (x : List ℕ). opening S x h) named ∙ begun) in
+          ap (λ (v : Event). tally p (sent_by_txn S h o v e.at)) (sym is) ∙ here ∙ ap (λ (b : Bool). told_new (cond b 1 0) (outcome_of S o.terms.txn h) (outcome_of S o.terms.txn (e ∷ h))) (ap (λ (x : List ℕ). bytes_eq x t) named ∙ same)
+          ∙ told_new_none (outcome_of S o.terms.txn h) (outcome_of S o.terms.txn (e ∷ h)) ∙ sym (others_untold S t e h v is (other same))
+
+  -- what is told again
+  again_tally : (S : List SetupLine) (r : PayReq) (x : Option Outcome) (why : Option Code) (due : Bool) → tally p (sent_again S r x why due) ≡ cond (bytes_eq r.txn t && is_some x && due) m 0
+  again_tally S r x why false = sym (not_due (bytes_eq r.txn t) (is_some x) m)
+  again_tally S r (Some x) why true = k.repeated r x ∙ ap (λ (b : Bool). cond b m 0) (sym (and_yes (bytes_eq r.txn t)))
+  again_tally S r None (Some c) true = orders_none S r leg.Reversal ∙ sym (not_told (bytes_eq r.txn t) true m)
+  again_tally S r None None true = sym (not_told (bytes_eq r.txn t) true m)
+
+  -- a number of confirmations where a Late finds one due
+  abbrev repeats_of : List SetupLine → List Entry → Event → ℕ → ℕ
+  repeats_of S h v now = cond (is_late_for t v && is_some (outcome_of S t h) && is_due S t h now) m 0
+
+  late_tally : (S : List SetupLine) (h : List Entry) (e : Entry) (u : List ℕ) (o : Option Opening) → is_closed h ≡ false → event_of h e.call ≡ event.Late u → opening S u h ≡ o
+      → tally p (sent_on_late S h e.at o) ≡ told_new 1 (outcome_of S t h) (outcome_of S t (e ∷ h)) + repeats_of S h (event.Late u) e.at
+  late_tally S h e u None run is begun = omega (arith, about_tally S h e (event.Late u) u None run is (λ c. cc) (λ other. other) begun, go (bytes_eq u t) refl)
+    where
+      go : (b : Bool) → bytes_eq u t ≡ b → cond (bytes_eq u t && is_some (outcome_of S t h) && is_due S t h e.at) m 0 ≡ 0
+      go true same =
+          let none : outcome_of S t h ≡ None = unopened_now S t h (ap (λ (x : List ℕ). opening S x h) (sym ((bytes_eq-Decides u t).0 same)) ∙ begun) in
+          ap (λ (x : Option Outcome). cond (bytes_eq u t && is_some x && is_due S t h e.at) m 0) none ∙ not_told (bytes_eq u t) (is_due S t h e.at) m
+      go false same = ap (λ (b : Bool). cond (b && is_some (outcome_of S t h) && is_due S t h e.at) m 0) same
+  late_tally S h e u (Some o) run is begun =
+      omega (arith, tally_append p (sent_by_txn S h o (event.Late w) e.at) (sent_again S o.terms (outcome_of S w h) (cause S w h) (is_due S w h e.at)), first, again_tally S o.terms (outcome_of S w h) (cause S w h) (is_due S w h e.at) ∙ go (bytes_eq u t) refl)
+    where
+      w : List ℕ
+      w = o.terms.txn
+      named : o.terms.txn ≡ u
+      named = opening_is_named S u h o begun
+      first : tally p (sent_by_txn S h o (event.Late o.terms.txn) e.at) ≡ told_new 1 (outcome_of S t h) (outcome_of S t (e ∷ h))
+      first = ap (λ (x : List ℕ). tally p (sent_by_txn S h o (event.Late x) e.at)) named ∙ about_tally S h e (event.Late u) u (Some o) run is (λ c. cc) (λ other. other) begun
+      go : (b : Bool) → bytes_eq u t ≡ b → cond (bytes_eq o.terms.txn t && is_some (outcome_of S o.terms.txn h) && is_due S o.terms.txn h e.at) m 0 ≡ cond (bytes_eq u t && is_some (outcome_of S t h) && is_due S t h e.at) m 0
+      go true same = (λ i. cond (bytes_eq (named i) t && is_some (outcome_of S (named i) h) && is_due S (named i) h e.at) m 0) ∙ (λ i. cond (bytes_eq u t && is_some (outcome_of S ((bytes_eq-Decides u t).0 same i) h) && is_due S ((bytes_eq-Decides u t).0 same i) h e.at) m 0)
+      go false same = (λ i. cond (bytes_eq (named i) t && is_some (outcome_of S o.terms.txn h) && is_due S o.terms.txn h e.at) m 0) ∙ ap (λ (b : Bool). cond (b && is_some (outcome_of S o.terms.txn h) && is_due S o.terms.txn h e.at) m 0) same
+          ∙ sym (ap (λ (b : Bool). cond (b && is_some (outcome_of S t h) && is_due S t h e.at) m 0) same)
+
+  opening_tally : (o : Option Opening) → tally p (sent_on_opening o) ≡ 0
+  opening_tally None = refl
+  opening_tally (Some o) = other_one (question o.terms) (k.others party.Switch (party.Psp (asked o.terms)) (question o.terms).body tt)
+
+  said_tally : (S : List SetupLine) (h : List Entry) (e : Entry) (q : List ℕ) (what : Said) → is_closed h ≡ false → event_of h e.call ≡ event.Heard q what
+      → tally p (sent_on_said S h q what e.at) ≡ told_new 1 (outcome_of S t h) (outcome_of S t (e ∷ h))
+  said_tally S h e q (said.Pay r) run is = opening_tally (opens_said S (opened S h) e.at q (said.Pay r)) ∙ sym (asked_untold S t q r e h run is)
+  said_tally S h e q (said.Auth a) run is = about_tally S h e (event.Heard q (said.Auth a)) a.txn (opening S a.txn h) run is (λ c. cc) (λ other. other) refl
+  said_tally S h e q (said.Check u) run is = sym (others_untold S t e h (event.Heard q (said.Check u)) is refl)
+  said_tally S h e q (said.Confirmed u) run is = sym (others_untold S t e h (event.Heard q (said.Confirmed u)) is refl)
+  said_tally S h e q said.Foreign run is = sym (others_untold S t e h (event.Heard q said.Foreign) is refl)
+
+  on_tally : (S : List SetupLine) (h : List Entry) (e : Entry) (v : Event) → is_closed h ≡ false → event_of h e.call ≡ v → (v ≡ event.Close → ⊥)
+      → tally p (sent_on S h v e.at) ≡ told_new 1 (outcome_of S t h) (outcome_of S t (e ∷ h)) + repeats_of S h v e.at
+  on_tally S h e (event.Heard q what) run is n = omega (arith, said_tally S h e q what run is)
+  on_tally S h e (event.Answered u l a) run is n = omega (arith, about_tally S h e (event.Answered u l a) u (opening S u h) run is n (λ other. other) refl)
+  on_tally S h e (event.Late u) run is n = late_tally S h e u (opening S u h) run is refl
+  on_tally S h e event.Unread run is n = omega (arith, others_untold S t e h event.Unread is refl)
+  on_tally S h e (event.Ordered u l) run is n = omega (arith, others_untold S t e h (event.Ordered u l) is refl)
+  on_tally S h e event.Told run is n = omega (arith, others_untold S t e h event.Told is refl)
+  on_tally S h e event.Lost run is n = omega (arith, others_untold S t e h event.Lost is refl)
+  on_tally S h e event.Close run is n = absurd (n refl)
+
+  -- receivers tell no outcome
+  word_tally : (psp : Party) (q : AuthQuestion) (w : Policy) → tally p (model_word psp q w) ≡ 0
+  word_tally psp q policy.Yes = other_one (record { from = psp; to = party.Switch; body = body.RespAuth q.txn q.amount true }) (k.others psp party.Switch (body.RespAuth q.txn q.amount true) tt)
+  word_tally psp q policy.No = other_one (record { from = psp; to = party.Switch; body = body.RespAuth q.txn q.amount false }) (k.others psp party.Switch (body.RespAuth q.txn q.amount false) tt)
+  word_tally psp q policy.Ask = refl
+
+  model_tally : (psp : Party) (q : AuthQuestion) (l : Option Listing) → tally p (model_answer_by psp q l) ≡ 0
+  model_tally psp q None = refl
+  model_tally psp q (Some l) = word_tally psp q l.policy
+
+  bank_tally : (bank : Party) (u : List ℕ) (l : Leg) (a : Option Answer) → tally p (bank_answer bank u l a) ≡ 0
+  bank_tally bank u l None = refl
+  bank_tally bank u l (Some a) = other_one (record { from = bank; to = party.Switch; body = body.LegAnswer u l a }) (k.others bank party.Switch (body.LegAnswer u l a) tt)
+
+  receiver_tally : (S : List SetupLine) (h : List Entry) (to : Party) (b : Body) → tally p (receiver_answer S h to b) ≡ 0
+  receiver_tally S h to (body.ReqAuth q) = model_tally to q (listing_at S (side q.kind q.payee q.payer))
+  receiver_tally S h to (body.Confirm u kind x) = other_one (record { from = to; to = party.Switch; body = body.Confirmed u }) (k.others to party.Switch (body.Confirmed u) tt)
+  receiver_tally S h to (body.Order u l amount ac addr) = bank_tally to u l (order_answer S h u l)
+  receiver_tally S h to (body.RespAuth _ _ _) = refl
+  receiver_tally S h to (body.LegAnswer _ _ _) = refl
+  receiver_tally S h to (body.Result _ _ _ _) = refl
+  receiver_tally S h to (body.Confirmed _) = refl
+
+  message_tally : (S : List SetupLine) (h : List Entry) (s : Option Sent) → tally p (answered_message S h s) ≡ 0
+  message_tally S h None = refl
+  message_tally S h (Some s) = receiver_tally S h s.to s.body
+
+  receivers_tally : (S : List SetupLine) (h : List Entry) (c : Call) → tally p (receiver_answers S h c) ≡ 0
+  receivers_tally S h (call.Deliver n) = message_tally S h (message_at h n)
+  receivers_tally S h (call.Hear _ _) = refl
+  receivers_tally S h (call.Lose _) = refl
+  receivers_tally S h (call.Late _) = refl
+  receivers_tally S h call.Close = refl
+
+  entry_tally : (S : List SetupLine) (h : List Entry) (e : Entry) → is_closed h ≡ false → is_close e.call ≡ false → e.sent ≡ sent_by S h e.call e.at
+      → tally p e.sent ≡ told_new 1 (outcome_of S t h) (outcome_of S t (e ∷ h)) + repeats_of S h (event_of h e.call) e.at
+  entry_tally S h e run open' is =
+      let sends : e.sent ≡ sent_on S h (event_of h e.call) e.at ++ receiver_answers S h e.call = is ∙ (λ i. cond (run i) [] (sent_on S h (event_of h e.call) e.at ++ receiver_answers S h e.call)) in
+      let n : event_of h e.call ≡ event.Close → ⊥ = λ c. absurd (both_ways (is_close e.call) open' (ap is_close (is_closing h e.call c))) in
+      ap (tally p) sends ∙ omega (arith, tally_append p (sent_on S h (event_of h e.call) e.at) (receiver_answers S h e.call), on_tally S h e (event_of h e.call) run refl n, receivers_tally S h e.call)
