@@ -1,10 +1,10 @@
 -- How often the outcome of a transaction is told.
-use Rattle.std.proofs.Common.{◌≡◌, ◌≢◌, ℕ, ◌+◌, ◌<◌, ◌≤◌, Bool, true, false, cond, List, [], ◌∷◌, ◌++◌, Option, Some, None, refl, sym, ◌∙◌, ap, subst, arith}
+use Rattle.std.proofs.Common.{◌≡◌, ◌≢◌, ℕ, zero, suc, ◌+◌, ◌<◌, ◌≤◌, Bool, true, false, cond, List, [], ◌∷◌, ◌++◌, Option, Some, None, refl, sym, ◌∙◌, ap, subst, append-nil, arith}
 use Rattle.std.specs.Prelude.{is_some, is_none, not, ◌&&◌, ◌||◌, nat_lt, nat_le}
 use Rattle.std.specs.List.{count_by}
 use Rattle.std.specs.Option.{option_or, option_and_then, option_map}
 use Rattle.std.specs.Str.{bytes_eq}
-use Rattle.std.proofs.lemmas.Bool.{or_parts, both_ways}
+use Rattle.std.proofs.lemmas.Bool.{and_parts, or_parts, both_ways, ltb-true}
 use Rattle.std.proofs.lemmas.Option.{cond_some, option_and_then_some}
 use Rattle.std.proofs.lemmas.List.Recursion.{is_count_by}
 use Rattle.std.proofs.lemmas.Slice.Eq.{bytes_eq-Decides}
@@ -43,14 +43,14 @@ use Rattle.upi_laws.specs.History.{sent, message_at, is_close, is_closed, event_
 use Rattle.upi_laws.specs.Places.{side, asked, opened, opens_said, opening, yes_or_no, answers_in_time, due_answer, decides, decides_on, decision, ends, ends_on, due_debit, debit, due_credit, credit, cause_by, cause, reverses_on, reverses, reversal}
 use Rattle.upi_laws.specs.Outcomes.{credit_outcome, debit_outcome, outcome_by, outcome_of}
 use Rattle.upi_laws.specs.Postings.{posted_at}
-use Rattle.upi_laws.specs.Dues.{confirms, due_confirm, due, is_due}
+use Rattle.upi_laws.specs.Dues.{orders, confirms, last_sent, acknowledged, thirty_after, due_confirm, due_by, due, passed, is_due}
 use Rattle.upi_laws.specs.Replies.{order_answer}
 use Rattle.upi_laws.specs.Sending.{question, order_at, order, confirm, outcome_messages, anew, sent_on_opening, sent_on_decision, sent_on_debit, sent_on_credit, sent_on_reversal, again, sent_again, sent_by_places, sent_by_state, sent_by_txn, sent_on_late, sent_on_event, bank_answer, model_word, model_answer_by, receiver_answer, answered_message, receiver_answers, sent_on_said, sent_on, sent_by}
 use Rattle.upi_laws.specs.Legal.{Legal}
 use Rattle.upi_laws.specs.Laws.{is_about}
 use Rattle.upi_laws.specs.Tellings.{IsStage, results, outcome_new, is_late_for, confirmed_again, EntryTellings, AllEntryTellings, ClosedAreSilent, running, OutcomeTellings, AllOutcomeTellings}
 use Rattle.upi_laws.proofs.Stays.{none_some, opening_stays_one}
-use Rattle.upi_laws.proofs.Facts.{decided_opened}
+use Rattle.upi_laws.proofs.Facts.{decided_opened, outcome_stays}
 use Rattle.upi_laws.proofs.Openings.{opening_is_named}
 use Rattle.upi_laws.proofs.Steps.{opening_alone, others_are_untouched}
 use Rattle.upi_laws.proofs.Stages.{places_are_stages}
@@ -415,3 +415,155 @@ module _ (p : Sent → Bool) (t : List ℕ) (m : ℕ) (k : IsTold p t m) where
       let sends : e.sent ≡ sent_on S h (event_of h e.call) e.at ++ receiver_answers S h e.call = is ∙ (λ i. cond (run i) [] (sent_on S h (event_of h e.call) e.at ++ receiver_answers S h e.call)) in
       let n : event_of h e.call ≡ event.Close → ⊥ = λ c. absurd (both_ways (is_close e.call) open' (ap is_close (is_closing h e.call c))) in
       ap (tally p) sends ∙ omega (arith, tally_append p (sent_on S h (event_of h e.call) e.at) (receiver_answers S h e.call), on_tally S h e (event_of h e.call) run refl n, receivers_tally S h e.call)
+
+-- ---- an entry of a legal history
+
+counted : (p : Sent → Bool) (xs : List Sent) (n : ℕ) → tally p xs ≡ n → count_by p xs ≡ n
+counted p xs n e = sym (tally_is p xs) ∙ e
+
+pub all_entry_tellings : AllEntryTellings
+all_entry_tellings S t e before legal open' =
+    let parts = or_parts (is_close e.call) (is_closed before) open' in
+    let v = event_of before e.call in
+    let b = is_late_for t v && is_some (outcome_of S t before) && is_due S t before e.at in
+    let result = entry_tally (results t) t 0 (results_told t) S before e parts.1 parts.0 legal.1.sends in
+    let confirm = entry_tally (confirms t) t 1 (confirms_told t) S before e parts.1 parts.0 legal.1.sends in
+    let one = told_new_one (outcome_of S t before) (outcome_of S t (e ∷ before)) in
+    record {
+      result_new = counted (results t) e.sent _ (omega (arith, result, cond_zero b, one));
+      confirm_new = counted (confirms t) e.sent _ (omega (arith, confirm, one));
+    }
+
+close_call : (c : Call) → is_close c ≡ true → c ≡ call.Close
+close_call call.Close e = refl
+close_call (call.Hear _ _) e = absurd cc
+close_call (call.Deliver _) e = absurd cc
+close_call (call.Lose _) e = absurd cc
+close_call (call.Late _) e = absurd cc
+
+pub closed_are_silent : ClosedAreSilent
+closed_are_silent S e before legal shut = legal.1.sends ∙ go (is_closed before) refl
+  where
+    at_close : (is_close e.call || false) ≡ true → sent_on S before (event_of before e.call) e.at ++ receiver_answers S before e.call ≡ []
+    at_close is = ap (λ (c : Call). sent_on S before (event_of before c) e.at ++ receiver_answers S before c) (close_call e.call (left (is_close e.call) is))
+      where
+        left : (b : Bool) → (b || false) ≡ true → b ≡ true
+        left true e = refl
+        left false e = e
+    go : (b : Bool) → is_closed before ≡ b → cond (is_closed before) [] (sent_on S before (event_of before e.call) e.at ++ receiver_answers S before e.call) ≡ []
+    go true is = ap (λ (b : Bool). cond b [] (sent_on S before (event_of before e.call) e.at ++ receiver_answers S before e.call)) is
+    go false is = ap (λ (b : Bool). cond b [] (sent_on S before (event_of before e.call) e.at ++ receiver_answers S before e.call)) is ∙ at_close (ap (λ (b : Bool). is_close e.call || b) (sym is) ∙ shut)
+
+-- ---- a whole history
+
+-- the entries before the first Close: they are a legal history without a Close, with the same messages
+record IsRunning (S : List SetupLine) (h : List Entry) : Type 0 where
+  pub runs_legal : Legal S (running h)
+  pub runs_open : is_closed (running h) ≡ false
+  pub runs_same : sent h ≡ sent (running h)
+
+is_running : (S : List SetupLine) (h : List Entry) → Legal S h → IsRunning S h
+is_running S [] legal = record { runs_legal = tt; runs_open = refl; runs_same = refl }
+is_running S (e ∷ h) legal = go (is_closed (e ∷ h)) refl (is_running S h legal.0)
+  where
+    go : (b : Bool) → is_closed (e ∷ h) ≡ b → IsRunning S h → IsRunning S (e ∷ h)
+    go true is r =
+        let same : running (e ∷ h) ≡ running h = ap (λ (b : Bool). cond b (running h) (e ∷ h)) is in
+        record {
+          runs_legal = subst (Legal S) (sym same) r.runs_legal;
+          runs_open = ap is_closed same ∙ r.runs_open;
+          runs_same = ap (λ (xs : List Sent). sent h ++ xs) (closed_are_silent S e h legal is) ∙ append-nil (sent h) ∙ r.runs_same ∙ ap sent (sym same);
+        }
+    go false is r =
+        let same : running (e ∷ h) ≡ e ∷ h = ap (λ (b : Bool). cond b (running h) (e ∷ h)) is in
+        record { runs_legal = subst (Legal S) (sym same) legal; runs_open = ap is_closed same ∙ is; runs_same = ap sent (sym same) }
+
+count_append : (p : Sent → Bool) (xs ys : List Sent) → count_by p (xs ++ ys) ≡ count_by p xs + count_by p ys
+count_append p xs ys = sym (tally_is p (xs ++ ys)) ∙ tally_append p xs ys ∙ (λ i. tally_is p xs i + tally_is p ys i)
+
+-- 1 where there is one
+abbrev there : Option Outcome → ℕ
+there None = 0
+there (Some x) = 1
+
+there_new : (a b : Option Outcome) → ((x : Outcome) → a ≡ Some x → b ≡ Some x) → there a + outcome_new a b ≡ there b
+there_new None None g = refl
+there_new None (Some x) g = refl
+there_new (Some x) b g = ap there (sym (g x refl))
+
+results_there : (S : List SetupLine) (t : List ℕ) (h : List Entry) → Legal S h → is_closed h ≡ false → count_by (results t) (sent h) ≡ there (outcome_of S t h)
+results_there S t [] legal run = refl
+results_there S t (e ∷ h) legal run =
+    let parts = or_parts (is_close e.call) (is_closed h) run in
+    omega (arith, count_append (results t) (sent h) e.sent, results_there S t h legal.0 parts.1, (all_entry_tellings S t e h legal run).result_new, there_new (outcome_of S t h) (outcome_of S t (e ∷ h)) (outcome_stays S t (e ∷ []) h))
+
+-- a confirmation is due only where fewer than four were sent
+due_few : (S : List SetupLine) (t : List ℕ) (h : List Entry) (now : ℕ) (x : Outcome) → is_closed h ≡ false → outcome_of S t h ≡ Some x → is_due S t h now ≡ true → count_by (confirms t) (sent h) < 4
+due_few S t h now x run told is = go (opening S t h) refl
+  where
+    n : ℕ
+    n = count_by (confirms t) (sent h)
+    last' : Option ℕ
+    last' = last_sent (confirms t) h
+    heard : Option ℕ
+    heard = acknowledged S t h
+    few : (b : Bool) (o : Option ℕ) → passed now (cond b o None) ≡ true → b ≡ true
+    few true o e = refl
+    few false o e = e
+    go : (o : Option Opening) → opening S t h ≡ o → count_by (confirms t) (sent h) < 4
+    go None none = absurd (none_some (outcome_of S t h) x (unopened_now S t h none) told)
+    go (Some o) begun =
+        let which : is_due S t h now ≡ passed now (due_confirm (count_by (confirms t) (sent h)) (last_sent (confirms t) h) (acknowledged S t h)) =
+          λ i. passed now (cond (run i) None (due_by (begun i) (told i) (decision S t h) (debit S t h) (cause S t h) (last_sent (orders t leg.Reversal) h) (due_confirm (count_by (confirms t) (sent h)) (last_sent (confirms t) h) (acknowledged S t h)))) in
+        ltb-true (count_by (confirms t) (sent h)) 4 (and_parts (nat_lt (count_by (confirms t) (sent h)) 4) (is_none (acknowledged S t h))
+        (few (nat_lt (count_by (confirms t) (sent h)) 4 && is_none (acknowledged S t h)) (thirty_after (last_sent (confirms t) h)) (sym which ∙ is))).0
+
+-- one to four where there is an outcome, else none
+abbrev IsConfirmedSo : ℕ → Option Outcome → Type 0
+IsConfirmedSo n None = n ≡ 0
+IsConfirmedSo n (Some x) = (1 ≤ n) × (n ≤ 4)
+
+confirms_so : (n m new again : ℕ) (x y : Option Outcome) → IsConfirmedSo n x → m ≡ n + (new + again) → new ≡ outcome_new x y → ((z : Outcome) → x ≡ Some z → y ≡ Some z) → again ≤ 1 → (x ≡ None → again ≡ 0) → ((z : Outcome) → x ≡ Some z → 1 ≤ again → n < 4) → IsConfirmedSo m y
+confirms_so n m new again None None k is e g one none few = omega (arith, k, is, e, none refl)
+confirms_so n m new again None (Some y) k is e g one none few = (omega (arith, k, is, e, none refl), omega (arith, k, is, e, none refl))
+confirms_so n m new zero (Some x) y k is e g one none few = subst (IsConfirmedSo m) (sym (g x refl)) (omega (arith, k.0, is, e), omega (arith, k.1, is, e))
+confirms_so n m new (suc a) (Some x) y k is e g one none few = subst (IsConfirmedSo m) (sym (g x refl)) (omega (arith, k.0, is, e), omega (arith, is, e, one, few x refl (omega arith)))
+
+bit_one : (b : Bool) → cond b 1 0 ≤ 1
+bit_one true = omega arith
+bit_one false = omega arith
+
+bit_set : (b : Bool) → 1 ≤ cond b 1 0 → b ≡ true
+bit_set true l = refl
+bit_set false l = absurd (omega (arith, l))
+
+confirms_there : (S : List SetupLine) (t : List ℕ) (h : List Entry) → Legal S h → is_closed h ≡ false → IsConfirmedSo (count_by (confirms t) (sent h)) (outcome_of S t h)
+confirms_there S t [] legal run = refl
+confirms_there S t (e ∷ h) legal run =
+    let parts = or_parts (is_close e.call) (is_closed h) run in
+    let late = is_late_for t (event_of h e.call) in
+    let due = is_due S t h e.at in
+    confirms_so (count_by (confirms t) (sent h)) (count_by (confirms t) (sent h ++ e.sent)) (outcome_new (outcome_of S t h) (outcome_of S t (e ∷ h))) (confirmed_again S t h (event_of h e.call) e.at) (outcome_of S t h) (outcome_of S t (e ∷ h))
+    (confirms_there S t h legal.0 parts.1)
+    (omega (arith, count_append (confirms t) (sent h) e.sent, (all_entry_tellings S t e h legal run).confirm_new)) refl
+    (outcome_stays S t (e ∷ []) h)
+    (bit_one (late && is_some (outcome_of S t h) && due))
+    (λ none. ap (λ (x : Option Outcome). cond (late && is_some x && due) 1 0) none ∙ not_told late due 1)
+    (λ z told more. due_few S t h e.at z parts.1 told (and_parts (late && is_some (outcome_of S t h)) due (bit_set (late && is_some (outcome_of S t h) && due) more)).1)
+
+pub all_outcome_tellings : AllOutcomeTellings
+all_outcome_tellings S t h legal =
+    let r = is_running S h legal in
+    let results_are : count_by (results t) (sent h) ≡ there (outcome_of S t (running h)) = ap (count_by (results t)) r.runs_same ∙ results_there S t (running h) r.runs_legal r.runs_open in
+    let confirms_are : IsConfirmedSo (count_by (confirms t) (sent h)) (outcome_of S t (running h)) = subst (λ (xs : List Sent). IsConfirmedSo (count_by (confirms t) xs) (outcome_of S t (running h))) (sym r.runs_same) (confirms_there S t (running h) r.runs_legal r.runs_open) in
+    record {
+      result_once = λ x is. results_are ∙ ap there is;
+      confirmed_once = λ x is. (subst (IsConfirmedSo (count_by (confirms t) (sent h))) is confirms_are).0;
+      confirmed_four = four (count_by (confirms t) (sent h)) (outcome_of S t (running h)) confirms_are;
+      result_none = λ is. results_are ∙ ap there is;
+      confirmed_none = λ is. subst (IsConfirmedSo (count_by (confirms t) (sent h))) is confirms_are;
+    }
+  where
+    four : (n : ℕ) (x : Option Outcome) → IsConfirmedSo n x → n ≤ 4
+    four n None k = omega (arith, k)
+    four n (Some x) k = k.1
