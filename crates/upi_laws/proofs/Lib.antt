@@ -8,3 +8,4 @@ pub mod Backed
 pub mod Told
 pub mod Once
 pub mod Telling
+pub mod Deliveries

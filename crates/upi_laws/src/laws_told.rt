@@ -1,6 +1,6 @@
 //! Laws of what a legal history tells: each message is backed by the history, and each word about
 //! an outcome is the one outcome.
-ghost use Rattle.upi_laws.specs.Backed.{MessagesBacked, MessageBacked, BackedWhenSent, OutcomeTold};
+ghost use Rattle.upi_laws.specs.Backed.{MessagesBacked, MessageBacked, BackedWhenSent, OutcomeTold, OutcomesAreCarried, OrdersArePlaced, OrdersAreAnswered, AnswersStand, AnswersEnd, AllLegsAreAnswered};
 
 /// Each message of a legal history is backed by it.
 pub fn messages_backed()
@@ -21,4 +21,35 @@ pub fn backed_when_sent()
 /// from the place at which the outcome came the one outcome, and before it none.
 pub fn outcome_told()
     ensures { OutcomeTold }
+{}
+
+/// At and behind the place of the outcome each status and each message about it carries it; before
+/// that place each status is that there is none, and no message tells one.
+pub fn outcomes_are_carried()
+    ensures { OutcomesAreCarried }
+{}
+
+/// An order arrives only behind the place that orders it.
+pub fn orders_are_placed()
+    ensures { OrdersArePlaced }
+{}
+
+/// An order that arrives has an answer.
+pub fn orders_are_answered()
+    ensures { OrdersAreAnswered }
+{}
+
+/// A bank's answer that arrives is the leg's.
+pub fn answers_stand()
+    ensures { AnswersStand }
+{}
+
+/// A bank's answer that arrives before a Close finds its leg ended, or ends it.
+pub fn answers_end()
+    ensures { AnswersEnd }
+{}
+
+/// What the ends of the legs say of their answers, and their answers of the ends before them.
+pub fn legs_are_answered()
+    ensures { AllLegsAreAnswered }
 {}
