@@ -9,3 +9,5 @@ pub mod Told
 pub mod Once
 pub mod Telling
 pub mod Deliveries
+pub mod Legs
+pub mod Approved
