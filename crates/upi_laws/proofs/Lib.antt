@@ -11,3 +11,4 @@ pub mod Telling
 pub mod Deliveries
 pub mod Legs
 pub mod Approved
+pub mod Setups
