@@ -6,6 +6,11 @@ pub mod Closing
 pub mod Beginnings
 pub mod Backed
 pub mod Told
+pub mod Once
+pub mod Telling
 pub mod Deliveries
+pub mod Legs
+pub mod Approved
+pub mod Setups
 pub mod Stages
 pub mod Tellings

@@ -240,7 +240,7 @@ not_shut : (b c : Bool) → b ≡ true → (not b && c) ≡ false
 not_shut true c e = refl
 not_shut false c e = absurd cc
 
-if_false : {X : Type 0} (b : Bool) (o : Option X) → b ≡ false → cond b o None ≡ None
+pub if_false : {X : Type 0} (b : Bool) (o : Option X) → b ≡ false → cond b o None ≡ None
 if_false true o e = absurd cc
 if_false false o e = refl
 

@@ -9,6 +9,7 @@ use Rattle.upi_base.specs.declared.code.Leg.TheVariants as leg
 use Rattle.upi_base.specs.declared.code.Code.{Code}
 use Rattle.upi_base.specs.declared.code.Answer.{Answer}
 use Rattle.upi_base.specs.declared.code.Outcome.{Outcome}
+use Rattle.upi_base.specs.declared.setup.Account.{Account}
 use Rattle.upi_base.specs.declared.setup.SetupLine.{SetupLine}
 use Rattle.upi_base.specs.Lists.{joined}
 use Rattle.upi_base.specs.Setup.{account_at}
@@ -24,7 +25,7 @@ use Rattle.upi_laws.specs.declared.places.LegEnd.TheVariants as ended
 use Rattle.upi_laws.specs.History.{first, is_closed, event_of}
 use Rattle.upi_laws.specs.Places.{one_account, in_shard, opens, opened, if_of, opening, decides, decision, ends, due_debit, debit, due_credit, credit, cause, reverses, reversal}
 use Rattle.upi_laws.specs.Outcomes.{outcome_of}
-use Rattle.upi_laws.specs.Postings.{arrival, answer, arrives, reversal_due, post}
+use Rattle.upi_laws.specs.Postings.{arrival, answer, arrives, reversal_due, balance}
 use Rattle.upi_laws.specs.Dues.{acknowledges, acknowledged}
 use Rattle.upi_laws.specs.Legal.{IsRight, Legal, LegalForward}
 
@@ -193,6 +194,14 @@ ClosedIsUntouched = (S : List SetupLine) (t : List ℕ) (e : Entry) (before : Li
 abbrev pub ClosedAnswersStand : Type 0
 ClosedAnswersStand = (S : List SetupLine) (e : Entry) (before : List Entry) → is_closed before ≡ true → (opened S (e ∷ before) ≡ opened S before) × (answer S (e ∷ before) ≡ answer S before)
 
+-- each leg that arrives at the entry was answered before
+abbrev pub IsNoFirstArrival : List SetupLine → Entry → List Entry → Type 0
+IsNoFirstArrival S e before = (t : List ℕ) (l : Leg) → arrives t l (is_closed before) (reversal_due S t before) (event_of before e.call) ≡ true → is_some (answer S before t l) ≡ true
+
+-- only a first arrival changes a balance
+abbrev pub OnlyArrivalsMove : Type 0
+OnlyArrivalsMove = (S : List SetupLine) (e : Entry) (before : List Entry) → IsNoFirstArrival S e before → (a : Account) → balance S a (e ∷ before) ≡ balance S a before
+
 -- ---- legal histories
 
 -- a prefix of a legal history is legal
@@ -213,3 +222,7 @@ LegalBothWays = (S : List SetupLine) (H : List Entry) → Legal S (reverse H) �
 
 abbrev pub LegalForwardMore : Type 0
 LegalForwardMore = (S : List SetupLine) (H : List Entry) (e : Entry) → LegalForward S (H ++ e ∷ []) ↔ (LegalForward S H × IsRight S (reverse H) e)
+
+-- in a legal history a leg that arrived was answered
+abbrev pub ArrivedIsAnswered : Type 0
+ArrivedIsAnswered = (S : List SetupLine) (t : List ℕ) (l : Leg) (h : List Entry) (k : ℕ) → Legal S h → arrival S t l h ≡ Some k → (a : Answer) × (answer S h t l ≡ Some a)

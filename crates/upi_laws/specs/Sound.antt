@@ -53,14 +53,14 @@ pub record StatusTells (S : List SetupLine) (e : Entry) (before : List Entry) (x
   pub checked : event_of before e.call ≡ event.Heard psp (said.Check txn)
   pub told : x ≡ outcome_of S txn (e ∷ before)
 
-pub record EntryTells (S : List SetupLine) (e : Entry) (before : List Entry) : Type 0 where
+pub record LatestTells (S : List SetupLine) (e : Entry) (before : List Entry) : Type 0 where
   pub status : (x : Option Outcome) → e.reply ≡ reply.Status x → StatusTells S e before x
   pub messages : AllByRecursion (λ (s : Sent). TellsOutcome S (e ∷ before) s.body) e.sent
 
 -- the latest entry of a prefix tells it
 abbrev pub OutcomesTold : List SetupLine → List Entry → Type 0
 OutcomesTold S [] = Unit {0}
-OutcomesTold S (e ∷ before) = EntryTells S e before
+OutcomesTold S (e ∷ before) = LatestTells S e before
 
 -- ---- (c) Each leg of each transaction moves at most once.
 
@@ -70,18 +70,18 @@ IsNoArrival S e before = (t : List ℕ) (l : Leg) → arrival S t l (e ∷ befor
 
 -- an order that is delivered before the close is answered as its leg is answered in the history, one that is delivered after it is refused;
 -- only a first arrival changes a balance
-pub record EntryPosts (S : List SetupLine) (e : Entry) (before : List Entry) : Type 0 where
+pub record LatestPosts (S : List SetupLine) (e : Entry) (before : List Entry) : Type 0 where
   pub answers : (t : List ℕ) (l : Leg) → event_of before e.call ≡ event.Ordered t l → is_closed before ≡ false → (a : Answer) × (e.reply ≡ reply.Leg a) × (answer S (e ∷ before) t l ≡ Some a)
   pub refuses : (t : List ℕ) (l : Leg) → event_of before e.call ≡ event.Ordered t l → is_closed before ≡ true → e.reply ≡ no code.Closed
   pub rests : IsNoArrival S e before → (a : Account) → balance S a (e ∷ before) ≡ balance S a before
 
-abbrev pub LatestPosts : List SetupLine → List Entry → Type 0
-LatestPosts S [] = Unit {0}
-LatestPosts S (e ∷ before) = EntryPosts S e before
+abbrev pub LegsPosted : List SetupLine → List Entry → Type 0
+LegsPosted S [] = Unit {0}
+LegsPosted S (e ∷ before) = LatestPosts S e before
 
 -- and a leg's answer in a prefix, which is that of its arrival, is its answer in the history
 pub record LegsPostOnce (S : List SetupLine) (P H : List Entry) : Type 0 where
-  pub latest : LatestPosts S P
+  pub latest : LegsPosted S P
   pub answers_stay : (t : List ℕ) (l : Leg) → Stays (answer S P t l) (answer S H t l)
 
 -- ---- (d) Where the debit of a COLLECT moved, an entry between its opening and the debit's arrival hears from the PSP of the payer's address
@@ -185,6 +185,25 @@ pub record PrefixSound (S : List SetupLine) (P H : List Entry) : Type 0 where
 
 abbrev pub Sound : List SetupLine → List Entry → Type 0
 Sound S H = (later P : List Entry) → later ++ P ≡ H → PrefixSound S P H
+
+-- every prefix of a legal history tells its outcomes, and posts each leg once
+abbrev pub LegalTells : Type 0
+LegalTells = (S : List SetupLine) (later P : List Entry) → Legal S (later ++ P) → OutcomesTold S P
+
+abbrev pub LegalPostsOnce : Type 0
+LegalPostsOnce = (S : List SetupLine) (later P : List Entry) → Legal S (later ++ P) → LegsPostOnce S P (later ++ P)
+
+-- no COLLECT is debited without its payer's approval
+abbrev pub LegalApproves : Type 0
+LegalApproves = (S : List SetupLine) (P : List Entry) → Legal S P → CollectsApproved S P
+
+-- balances and money in flight keep their sum
+abbrev pub LegalKeepsMoney : Type 0
+LegalKeepsMoney = (S : List SetupLine) (P : List Entry) → is_setup S ≡ true → Legal S P → MoneyKept S P
+
+-- the close settles every transaction, and all banks balance
+abbrev pub LegalClosesSound : Type 0
+LegalClosesSound = (S : List SetupLine) (P : List Entry) → is_setup S ≡ true → Legal S P → JustClosed P → ClosesSound S P
 
 -- every legal history is sound
 abbrev pub LegalIsSound : Type 0

@@ -1,5 +1,6 @@
 //! The laws of histories, each as a function with an empty body: its contract is the law.
-ghost use Rattle.upi_laws.specs.Laws.{AllPlacesStay, OpeningsGrow, OutcomeStays, AllPlacesFollow, OpeningsAreFound, OpeningIsNamed, OpeningIsFirst, OpeningsAreAllowed, ShardsHaveRoom, OpeningsHaveRoom, RunningIsUncut, ClosedHaveOutcomes, OneEntryAdds, AtMostOneComes, OthersAreUntouched, ClosedIsUntouched, ClosedAnswersStand, LegalBefore, LegalAt, LegalMore, LegalBothWays, LegalForwardMore};
+ghost use Rattle.upi_laws.specs.Laws.{AllPlacesStay, OpeningsGrow, OutcomeStays, AllPlacesFollow, OpeningsAreFound, OpeningIsNamed, OpeningIsFirst, OpeningsAreAllowed, ShardsHaveRoom, OpeningsHaveRoom, RunningIsUncut, ClosedHaveOutcomes, OneEntryAdds, AtMostOneComes, OthersAreUntouched, ClosedIsUntouched, ClosedAnswersStand, LegalBefore, LegalAt, LegalMore, LegalBothWays, LegalForwardMore, OnlyArrivalsMove, ArrivedIsAnswered};
+ghost use Rattle.upi_laws.specs.Sound.{LegalTells, LegalPostsOnce};
 
 /// A place that was found stays found, whatever comes later.
 pub fn places_stay()
@@ -109,4 +110,26 @@ pub fn legal_both_ways()
 /// One entry more, where the latest stands last.
 pub fn legal_forward_more()
     ensures { LegalForwardMore }
+{}
+
+/// Only a first arrival of a leg changes a balance.
+pub fn only_arrivals_move()
+    ensures { OnlyArrivalsMove }
+{}
+
+/// In a legal history a leg that arrived was answered.
+pub fn arrived_is_answered()
+    ensures { ArrivedIsAnswered }
+{}
+
+/// In a legal history every status, RESPPAY and CONFIRM tells the one outcome from the place at
+/// which it came, and before that place none.
+pub fn legal_tells()
+    ensures { LegalTells }
+{}
+
+/// In a legal history each leg posts at most once: every delivery of its orders is answered as the
+/// first was, and none but the first moves money.
+pub fn legal_posts_once()
+    ensures { LegalPostsOnce }
 {}
