@@ -1,4 +1,6 @@
 //! What decides a transaction.
+ghost use Rattle.std.specs.Prelude.{◌≡◌};
+
 use upi_base::{Code, Moment, PayReq};
 
 /// The opening of a transaction: its terms, and when it was opened.
@@ -6,6 +8,18 @@ use upi_base::{Code, Moment, PayReq};
 pub struct Opening {
     pub terms: PayReq,
     pub at: Moment,
+}
+
+impl Opening {
+    /// The same opening.
+    pub fn copy(&self) -> Opening
+        ensures { result ≡ self.now }
+    {
+        Opening {
+            terms: self.terms.copy(),
+            at: self.at,
+        }
+    }
 }
 
 /// How the question to the asked PSP ended.

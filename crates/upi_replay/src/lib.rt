@@ -1,0 +1,16 @@
+//! The definitions of `upi_laws`, computed: a plain program that goes over a history once, and keeps
+//! what it has found in lists.
+#![tactic(auto)]
+
+pub mod dues;
+pub mod events;
+pub mod found;
+pub mod places;
+pub mod postings;
+pub mod replies;
+pub mod rows;
+pub mod rules;
+pub mod sending;
+
+pub use found::Found;
+pub use rows::Row;
