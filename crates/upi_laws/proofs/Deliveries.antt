@@ -42,19 +42,10 @@ use Rattle.upi_laws.specs.Backed.{OrderPlaced, IsOrder, BackedBy, Backed, Orders
 use Rattle.upi_laws.proofs.Stays.{or_stays, or_cases, guarded, if_some, some_same, some_is, is_some_has, opening_stays_one, decision_stays, debit_stays, answer_stays}
 use Rattle.upi_laws.proofs.Facts.{decided_opened, due_debit_is, debit_approved, credit_debited, cause_from, cause_stays}
 use Rattle.upi_laws.proofs.Closing.{running_is_uncut}
-use Rattle.upi_laws.proofs.Backed.{same_leg_refl, message_backed, cause_held}
+use Rattle.upi_laws.proofs.Once.{same_leg_is, same_leg_self, ordered, caused_opened}
+use Rattle.upi_laws.proofs.Backed.{ message_backed, cause_held}
 
 -- ---- what was delivered
-
-pub record IsOrdered (h : List Entry) (c : Call) (t : List ℕ) (l : Leg) : Type 0 where
-  pub n : ℕ
-  pub s : Sent
-  pub amount : ℕ
-  pub ac : AccountRef
-  pub addr : List ℕ
-  pub delivers : c ≡ call.Deliver n
-  pub found : message_at h n ≡ Some s
-  pub body_is : s.body ≡ body.Order t l amount ac addr
 
 pub record IsAnswered (h : List Entry) (c : Call) (t : List ℕ) (l : Leg) (a : Answer) : Type 0 where
   pub n : ℕ
@@ -63,28 +54,11 @@ pub record IsAnswered (h : List Entry) (c : Call) (t : List ℕ) (l : Leg) (a : 
   pub found : message_at h n ≡ Some s
   pub body_is : s.body ≡ body.LegAnswer t l a
 
--- a word of a party is no order and no answer
-said_no_order : (from : Party) (what : Said) (t : List ℕ) (l : Leg) → said_by from what ≡ event.Ordered t l → ⊥
-said_no_order (party.Psp p) what t l e = cc
-said_no_order (party.Bank b) what t l e = cc
-said_no_order party.Switch what t l e = cc
-
+-- a word of a party is no answer of a bank
 said_no_answer : (from : Party) (what : Said) (t : List ℕ) (l : Leg) (a : Answer) → said_by from what ≡ event.Answered t l a → ⊥
 said_no_answer (party.Psp p) what t l a e = cc
 said_no_answer (party.Bank b) what t l a e = cc
 said_no_answer party.Switch what t l a e = cc
-
-body_ordered : (from : Party) (b : Body) (t : List ℕ) (l : Leg) → delivered from b ≡ event.Ordered t l → (amount : ℕ) × (ac : AccountRef) × (addr : List ℕ) × (b ≡ body.Order t l amount ac addr)
-body_ordered from (body.Order t' l' amount ac addr) t l e = (amount, ac, addr, same t' t l' l e)
-  where
-    same : (t' t : List ℕ) (l' l : Leg) → event.Ordered t' l' ≡ event.Ordered t l → body.Order t' l' amount ac addr ≡ body.Order t l amount ac addr
-    same t' t l' l e = cc
-body_ordered from (body.RespAuth u amount word) t l e = absurd (said_no_order from _ t l e)
-body_ordered from (body.Confirmed u) t l e = absurd (said_no_order from _ t l e)
-body_ordered from (body.LegAnswer _ _ _) t l e = absurd cc
-body_ordered from (body.ReqAuth _) t l e = absurd cc
-body_ordered from (body.Result _ _ _ _) t l e = absurd cc
-body_ordered from (body.Confirm _ _ _) t l e = absurd cc
 
 body_answered : (from : Party) (b : Body) (t : List ℕ) (l : Leg) (a : Answer) → delivered from b ≡ event.Answered t l a → b ≡ body.LegAnswer t l a
 body_answered from (body.LegAnswer t' l' a') t l a e = same t' t l' l a' a e
@@ -98,21 +72,9 @@ body_answered from (body.ReqAuth _) t l a e = absurd cc
 body_answered from (body.Result _ _ _ _) t l a e = absurd cc
 body_answered from (body.Confirm _ _ _) t l a e = absurd cc
 
-message_ordered : (h : List Entry) (n : ℕ) (s : Option Sent) (t : List ℕ) (l : Leg) → message_at h n ≡ s → read_message s ≡ event.Ordered t l → IsOrdered h (call.Deliver n) t l
-message_ordered h n None t l at e = absurd cc
-message_ordered h n (Some s) t l at e = let b = body_ordered s.from s.body t l e in record { n = n; s = s; amount = b.0; ac = b.1; addr = b.2; delivers = refl; found = at; body_is = b.3 }
-
 message_answered : (h : List Entry) (n : ℕ) (s : Option Sent) (t : List ℕ) (l : Leg) (a : Answer) → message_at h n ≡ s → read_message s ≡ event.Answered t l a → IsAnswered h (call.Deliver n) t l a
 message_answered h n None t l a at e = absurd cc
 message_answered h n (Some s) t l a at e = record { n = n; s = s; delivers = refl; found = at; body_is = body_answered s.from s.body t l a e }
-
-pub is_ordered : (h : List Entry) (c : Call) (t : List ℕ) (l : Leg) → event_of h c ≡ event.Ordered t l → IsOrdered h c t l
-is_ordered h (call.Deliver n) t l e = message_ordered h n (message_at h n) t l refl e
-is_ordered h (call.Hear p (input.Good m)) t l e = absurd cc
-is_ordered h (call.Hear p (input.Bad b)) t l e = absurd cc
-is_ordered h (call.Lose _) t l e = absurd cc
-is_ordered h (call.Late _) t l e = absurd cc
-is_ordered h call.Close t l e = absurd cc
 
 pub is_answered : (h : List Entry) (c : Call) (t : List ℕ) (l : Leg) (a : Answer) → event_of h c ≡ event.Answered t l a → IsAnswered h c t l a
 is_answered h (call.Deliver n) t l a e = message_answered h n (message_at h n) t l a refl e
@@ -149,12 +111,8 @@ is_closing h (call.Deliver n) e = absurd (go (message_at h n) e)
     go None e = cc
     go (Some s) e = body_says s.from s.body e
 
--- the order behind an event
-pub order_of : (S : List SetupLine) (h : List Entry) (c : Call) (t : List ℕ) (l : Leg) → Legal S h → (o : IsOrdered h c t l) → IsOrder S h o.s.from o.s.to t l o.amount o.ac o.addr
-order_of S h c t l legal o = subst (λ (b : Body). BackedBy S h o.s.from o.s.to b) o.body_is (message_backed S h o.n o.s legal o.found)
-
 pub orders_are_placed : OrdersArePlaced
-orders_are_placed S h c t l legal e = (order_of S h c t l legal (is_ordered h c t l e)).placed
+orders_are_placed S h c t l legal e = (ordered S h c t l legal e).order.placed
 
 pub answers_stand : AnswersStand
 answers_stand S h c t l a legal e = let k = is_answered h c t l a e in subst (λ (b : Body). BackedBy S h k.s.from k.s.to b) k.body_is (message_backed S h k.n k.s legal k.found)
@@ -175,21 +133,10 @@ or_some (Some x) p e = refl
 
 pub orders_are_answered : OrdersAreAnswered
 orders_are_answered S h c t l legal e =
-    let k = order_of S h c t l legal (is_ordered h c t l e) in
+    let k = (ordered S h c t l legal e).order in
     is_some_has (order_answer S h t l) (or_some (answer S h t l) (post S (opened S h) (answer S h) t l) (post_some S h t l k.o k.begun (posted_some S (opened S h) (answer S h) k.o l k.a k.held)))
 
 -- ---- behind which place a leg is answered
-
-pub same_leg_is : (a b : Leg) → same_leg a b ≡ true → a ≡ b
-same_leg_is leg.Debit leg.Debit e = refl
-same_leg_is leg.Credit leg.Credit e = refl
-same_leg_is leg.Reversal leg.Reversal e = refl
-same_leg_is leg.Debit leg.Credit e = absurd cc
-same_leg_is leg.Debit leg.Reversal e = absurd cc
-same_leg_is leg.Credit leg.Debit e = absurd cc
-same_leg_is leg.Credit leg.Reversal e = absurd cc
-same_leg_is leg.Reversal leg.Debit e = absurd cc
-same_leg_is leg.Reversal leg.Credit e = absurd cc
 
 answer_placed_stays : (S : List SetupLine) (e : Entry) (h : List Entry) (t : List ℕ) (l : Leg) → AnswerPlaced S h t l → AnswerPlaced S (e ∷ h) t l
 answer_placed_stays S e h t leg.Debit p = (p.0, decision_stays S t (e ∷ []) h (decided.Yes p.0) p.1)
@@ -245,9 +192,9 @@ answer_placed S (x ∷ h) t l a legal e = elim (or_cases (answer S h t l) _ a e)
 
 -- ---- how a leg was answered that ended
 
-told_answered : (x a : Answer) (o : Option Answer) (now : ℕ) (d : LegEnd) → o ≡ Some a → end_told now a ≡ d → EndAnswered o d
-told_answered x answered.Posted o now d e is = subst (λ (d : LegEnd). EndAnswered o d) is e
-told_answered x (answered.Declined c) o now d e is = subst (λ (d : LegEnd). EndAnswered o d) is e
+told_answered : (a : Answer) (o : Option Answer) (now : ℕ) (d : LegEnd) → o ≡ Some a → end_told now a ≡ d → EndAnswered o d
+told_answered answered.Posted o now d e is = subst (λ (d : LegEnd). EndAnswered o d) is e
+told_answered (answered.Declined c) o now d e is = subst (λ (d : LegEnd). EndAnswered o d) is e
 
 mapped : {X Y : Type 0} (f : X → Y) (o : Option X) (y : Y) → option_map f o ≡ Some y → (x : X) × (o ≡ Some x) × (f x ≡ y)
 mapped f None y e = absurd cc
@@ -271,7 +218,7 @@ tells_stand S h c t l event.Close a legal is e = absurd cc
 -- an end is an answer's, or it is one without an answer
 told_end : (S : List SetupLine) (h : List Entry) (c : Call) (t : List ℕ) (l : Leg) (v : Event) (now : ℕ) (d : LegEnd) → Legal S h → event_of h c ≡ v → option_map (end_told now) (tells t l v) ≡ Some d → EndAnswered (answer S h t l) d
 told_end S h c t l v now d legal is e =
-    let m = mapped (end_told now) (tells t l v) d e in told_answered m.0 m.0 (answer S h t l) now d (tells_stand S h c t l v m.0 legal is m.1) m.2
+    let m = mapped (end_told now) (tells t l v) d e in told_answered m.0 (answer S h t l) now d (tells_stand S h c t l v m.0 legal is m.1) m.2
 
 on_end : (S : List SetupLine) (h : List Entry) (c : Call) (t : List ℕ) (l : Leg) (v : Event) (now due : ℕ) (d : LegEnd) → Legal S h → event_of h c ≡ v → ends_on t l v now due ≡ Some d → EndAnswered (answer S h t l) d
 on_end S h c t l event.Close now due d legal is e = subst (λ (d : LegEnd). EndAnswered (answer S h t l) d) (some_same ended.Close d e) tt
@@ -322,23 +269,13 @@ close_reverses S e h t o run is due begun =
     let p = post S (opened S h) (answer S h) t leg.Reversal in
     or_some (answer S h t leg.Reversal) (cond (arrives t leg.Reversal (is_closed h) (reversal_due S t h) (event_of h e.call)) p None) (ap (λ (b : Bool). is_some (cond b p None)) arrived ∙ post_some S h t leg.Reversal o begun refl)
 
--- what is wanted back was opened
-caused_opened : (S : List SetupLine) (h : List Entry) (t : List ℕ) (c : Code) → cause S t h ≡ Some c → (o : Opening) × (opening S t h ≡ Some o)
-caused_opened S h t c e = elim (cause_from (debit S t h) (credit S t h) c e) [
-  | inl late ↦ let y = debit_approved S t h ended.Late late.0 in decided_opened S t h (decided.Yes y.0) y.1
-  | inr declined ↦
-      let d = credit_debited S t h (ended.Declined c) declined in
-      let y = debit_approved S t h (ended.Posted d.0) d.1 in
-      decided_opened S t h (decided.Yes y.0) y.1
-]
-
 none_so : {X : Type 0} (o : Option X) → o ≡ None → is_none o ≡ true
 none_so o e = rw e refl
 
 reverses_answered : (S : List SetupLine) (e : Entry) (h : List Entry) (t : List ℕ) (v : Event) (c : Code) (k : ℕ) → Legal S h → is_closed h ≡ false → event_of h e.call ≡ v → reversal S t h ≡ None → cause S t h ≡ Some c → reverses_on t v e.at ≡ Some k
     → is_some (answer S (e ∷ h) t leg.Reversal) ≡ true
 reverses_answered S e h t event.Close c k legal run is none why fit =
-    let o = caused_opened S h t c why in
+    let o = caused_opened S t h c why in
     close_reverses S e h t o.0 run is (or_right (is_some (due_debit (decision S t h)) && is_none (debit S t h)) (is_some (cause S t h) && is_none (reversal S t h))
     (and_from (is_some (cause S t h)) (is_none (reversal S t h)) (some_is (cause S t h) c why) (none_so (reversal S t h) none))) o.1
 reverses_answered S e h t (event.Answered t' l' a) c k legal run is none why fit =
@@ -404,7 +341,7 @@ legs_are_answered S t h legal = record {
 -- ---- an answer that arrives before a Close ends its leg
 
 tells_own : (t : List ℕ) (l : Leg) (a : Answer) → tells t l (event.Answered t l a) ≡ Some a
-tells_own t l a = rw ((bytes_eq-Decides t t).1 refl, same_leg_refl l) refl
+tells_own t l a = rw ((bytes_eq-Decides t t).1 refl, same_leg_self l) refl
 
 ends_own : (t : List ℕ) (l : Leg) (a : Answer) (now due : ℕ) → ends t l false (Some due) (event.Answered t l a) now ≡ Some (end_told now a)
 ends_own t l a now due = ap (option_map (end_told now)) (tells_own t l a)

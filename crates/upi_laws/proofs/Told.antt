@@ -41,7 +41,6 @@ use Rattle.upi_laws.specs.Outcomes.{late_code, outcome_by, outcome_of}
 use Rattle.upi_laws.specs.Dues.{is_due}
 use Rattle.upi_laws.specs.Replies.{ok, no, repeats, reply_pay, reply_decided, reply_auth, reply_check, reply_confirmed, reply_heard, late_answer, reply_answered, order_answer, reply_order, reply_late, reply_on, reply_closed_said, reply_closed_on, reply_closed, reply_to}
 use Rattle.upi_laws.specs.Legal.{Legal}
-use Rattle.upi_laws.specs.Sound.{TellsOutcome, OutcomesTold}
 use Rattle.upi_laws.specs.Backed.{BackedBy, Backed, AllBacked, outcome_in, status_in, IsOfCheck, AllTell, EntryTells, OutcomeTold, OutcomeCarried, OutcomesAreCarried}
 use Rattle.upi_laws.proofs.Stays.{or_nothing, some_same, none_some}
 use Rattle.upi_laws.proofs.Facts.{outcome_stays}
@@ -283,46 +282,3 @@ outcomes_are_carried S t later e before l =
       status_pends = λ y is given. k.status y given ∙ is;
       none_tell = λ is. all_silent t stands e.sent is k.messages;
     }
-
--- ---- as every prefix of a legal history promises it
-
-body_tells : (S : List SetupLine) (h : List Entry) (from to : Party) (b : Body) → BackedBy S h from to b → TellsOutcome S h b
-body_tells S h from to (body.Result t kind x m) k = k.told
-body_tells S h from to (body.Confirm t kind x) k = k.told
-body_tells S h from to (body.ReqAuth _) k = tt
-body_tells S h from to (body.RespAuth _ _ _) k = tt
-body_tells S h from to (body.Order _ _ _ _ _) k = tt
-body_tells S h from to (body.LegAnswer _ _ _) k = tt
-body_tells S h from to (body.Confirmed _) k = tt
-
-all_tell : (S : List SetupLine) (h : List Entry) (xs : List Sent) → AllBacked S h xs → AllByRecursion (λ (s : Sent). TellsOutcome S h s.body) xs
-all_tell S h [] k = tt
-all_tell S h (s ∷ xs) k = (body_tells S h s.from s.to s.body k.0, all_tell S h xs k.1)
-
--- a status tells what stands of the transaction that is asked for
-status_asked : (S : List SetupLine) (h : List Entry) (r : Reply) (v : Event) (x : Option Outcome) → StatusIs S h r v → r ≡ reply.Status x → (p t : List ℕ) × (v ≡ event.Heard p (said.Check t)) × (x ≡ outcome_of S t h)
-status_asked S h r v x k is = go v (subst (λ (r : Reply). StatusIs S h r v) is k)
-  where
-    go : (v : Event) → StatusIs S h (reply.Status x) v → (p t : List ℕ) × (v ≡ event.Heard p (said.Check t)) × (x ≡ outcome_of S t h)
-    go (event.Heard p (said.Check t)) k = (p, t, refl, k)
-    go (event.Heard p (said.Pay _)) k = absurd k
-    go (event.Heard p (said.Auth _)) k = absurd k
-    go (event.Heard p (said.Confirmed _)) k = absurd k
-    go (event.Heard p said.Foreign) k = absurd k
-    go event.Unread k = absurd k
-    go (event.Ordered _ _) k = absurd k
-    go (event.Answered _ _ _) k = absurd k
-    go event.Told k = absurd k
-    go event.Lost k = absurd k
-    go (event.Late _) k = absurd k
-    go event.Close k = absurd k
-
-pub outcomes_told : (S : List SetupLine) (P : List Entry) → Legal S P → OutcomesTold S P
-outcomes_told S [] l = tt
-outcomes_told S (e ∷ before) l = record {
-  status = λ x is.
-      let v = event_of before e.call in
-      let k = status_asked S before e.reply v x (subst (λ (r : Reply). StatusIs S before r v) (sym l.1.replied) (reply_tells S before e.call e.at)) is in
-      record { psp = k.0; txn = k.1; checked = k.2; told = k.3 ∙ sym (check_decides_nothing S before e k.0 k.1 k.1 k.2) };
-  messages = all_tell S (e ∷ before) e.sent (backed_when_sent S [] e before l);
-}
