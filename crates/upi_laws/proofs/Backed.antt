@@ -60,7 +60,7 @@ some_held : {X : Type 0} (o p : Option X) → ((x : X) → o ≡ Some x → p �
 some_held None p g h = absurd cc
 some_held (Some x) p g h = rw (g x refl) refl
 
-cause_held : (S : List SetupLine) (t : List ℕ) (e : Entry) (h : List Entry) → is_some (cause S t h) ≡ true → is_some (cause S t (e ∷ h)) ≡ true
+pub cause_held : (S : List SetupLine) (t : List ℕ) (e : Entry) (h : List Entry) → is_some (cause S t h) ≡ true → is_some (cause S t (e ∷ h)) ≡ true
 cause_held S t e h s = some_held (cause S t h) (cause S t (e ∷ h)) (cause_stays S t (e ∷ []) h) s
 
 declined_cause : (d c : Option LegEnd) (k : Code) → c ≡ Some (ended.Declined k) → is_some (cause_by d c) ≡ true
@@ -245,7 +245,7 @@ on_backed S h e event.Close run is = tt
 
 -- ---- what a receiver answers
 
-same_leg_refl : (l : Leg) → same_leg l l ≡ true
+pub same_leg_refl : (l : Leg) → same_leg l l ≡ true
 same_leg_refl leg.Debit = refl
 same_leg_refl leg.Credit = refl
 same_leg_refl leg.Reversal = refl

@@ -8,3 +8,9 @@ pub mod Backed
 pub mod Told
 pub mod Once
 pub mod Telling
+pub mod Deliveries
+pub mod Legs
+pub mod Approved
+pub mod Setups
+pub mod Stages
+pub mod Tellings

@@ -41,23 +41,24 @@ use Rattle.upi_laws.specs.Outcomes.{late_code, outcome_by, outcome_of}
 use Rattle.upi_laws.specs.Dues.{is_due}
 use Rattle.upi_laws.specs.Replies.{ok, no, repeats, reply_pay, reply_decided, reply_auth, reply_check, reply_confirmed, reply_heard, late_answer, reply_answered, order_answer, reply_order, reply_late, reply_on, reply_closed_said, reply_closed_on, reply_closed, reply_to}
 use Rattle.upi_laws.specs.Legal.{Legal}
-use Rattle.upi_laws.specs.Backed.{BackedBy, Backed, AllBacked, outcome_in, status_in, IsOfCheck, AllTell, EntryTells, OutcomeTold}
-use Rattle.upi_laws.proofs.Stays.{or_nothing}
+use Rattle.upi_laws.specs.Backed.{BackedBy, Backed, AllBacked, outcome_in, status_in, IsOfCheck, AllTell, EntryTells, OutcomeTold, OutcomeCarried, OutcomesAreCarried}
+use Rattle.upi_laws.proofs.Stays.{or_nothing, some_same, none_some}
+use Rattle.upi_laws.proofs.Facts.{outcome_stays}
 use Rattle.upi_laws.proofs.Backed.{legal_before, backed_when_sent}
 
 -- ---- replies
 
 -- a status is the reply to a check, and is what stands
-abbrev StatusTells : List SetupLine → List Entry → Reply → Event → Type 0
-StatusTells S h (reply.Status x) (event.Heard p (said.Check t)) = x ≡ outcome_of S t h
-StatusTells S h (reply.Status x) _ = ⊥
-StatusTells S h _ _ = Unit {0}
+abbrev StatusIs : List SetupLine → List Entry → Reply → Event → Type 0
+StatusIs S h (reply.Status x) (event.Heard p (said.Check t)) = x ≡ outcome_of S t h
+StatusIs S h (reply.Status x) _ = ⊥
+StatusIs S h _ _ = Unit {0}
 
 abbrev NotStatus : Reply → Type 0
 NotStatus (reply.Status x) = ⊥
 NotStatus _ = Unit {0}
 
-tells_nothing : (S : List SetupLine) (h : List Entry) (r : Reply) (v : Event) → NotStatus r → StatusTells S h r v
+tells_nothing : (S : List SetupLine) (h : List Entry) (r : Reply) (v : Event) → NotStatus r → StatusIs S h r v
 tells_nothing S h (reply.Status x) v n = absurd n
 tells_nothing S h _ v n = tt
 
@@ -106,22 +107,22 @@ not_due : (b : Bool) → NotStatus (reply_late b)
 not_due true = tt
 not_due false = tt
 
-either_tells : (S : List SetupLine) (h : List Entry) (b : Bool) (x y : Reply) (v : Event) → StatusTells S h x v → StatusTells S h y v → StatusTells S h (cond b x y) v
+either_tells : (S : List SetupLine) (h : List Entry) (b : Bool) (x y : Reply) (v : Event) → StatusIs S h x v → StatusIs S h y v → StatusIs S h (cond b x y) v
 either_tells S h true x y v p q = p
 either_tells S h false x y v p q = q
 
-check_tells : (S : List SetupLine) (h : List Entry) (p t : List ℕ) (x : Option Outcome) (o : Option Opening) → x ≡ outcome_of S t h → StatusTells S h (reply_check p x o) (event.Heard p (said.Check t))
+check_tells : (S : List SetupLine) (h : List Entry) (p t : List ℕ) (x : Option Outcome) (o : Option Opening) → x ≡ outcome_of S t h → StatusIs S h (reply_check p x o) (event.Heard p (said.Check t))
 check_tells S h p t x None e = tt
 check_tells S h p t x (Some o) e = either_tells S h (bytes_eq p (asking o.terms) || bytes_eq p (asked o.terms)) (reply.Status x) (no _) (event.Heard p (said.Check t)) e tt
 
-heard_tells : (S : List SetupLine) (h : List Entry) (p : List ℕ) (what : Said) (now : ℕ) → StatusTells S h (reply_heard S h p what now) (event.Heard p what)
+heard_tells : (S : List SetupLine) (h : List Entry) (p : List ℕ) (what : Said) (now : ℕ) → StatusIs S h (reply_heard S h p what now) (event.Heard p what)
 heard_tells S h p (said.Pay r) now = tells_nothing S h _ (event.Heard p (said.Pay r)) (not_pay S (opened S h) p r (opening S r.txn h))
 heard_tells S h p (said.Auth a) now = tells_nothing S h _ (event.Heard p (said.Auth a)) (not_auth S p a now (decision S a.txn h) (opening S a.txn h))
 heard_tells S h p (said.Check t) now = check_tells S h p t (outcome_of S t h) (opening S t h) refl
 heard_tells S h p (said.Confirmed t) now = tells_nothing S h _ (event.Heard p (said.Confirmed t)) (not_confirmed p (outcome_of S t h) (opening S t h))
 heard_tells S h p said.Foreign now = tt
 
-on_tells : (S : List SetupLine) (h : List Entry) (v : Event) (now : ℕ) → StatusTells S h (reply_on S h v now) v
+on_tells : (S : List SetupLine) (h : List Entry) (v : Event) (now : ℕ) → StatusIs S h (reply_on S h v now) v
 on_tells S h (event.Heard p what) now = heard_tells S h p what now
 on_tells S h event.Unread now = tt
 on_tells S h (event.Ordered t l) now = tells_nothing S h (reply_order (order_answer S h t l)) (event.Ordered t l) (not_order (order_answer S h t l))
@@ -131,14 +132,14 @@ on_tells S h event.Lost now = tt
 on_tells S h (event.Late t) now = tells_nothing S h (reply_late (is_due S t h now)) (event.Late t) (not_due (is_due S t h now))
 on_tells S h event.Close now = tt
 
-closed_said_tells : (S : List SetupLine) (h : List Entry) (p : List ℕ) (what : Said) → StatusTells S h (reply_closed_said S h p what) (event.Heard p what)
+closed_said_tells : (S : List SetupLine) (h : List Entry) (p : List ℕ) (what : Said) → StatusIs S h (reply_closed_said S h p what) (event.Heard p what)
 closed_said_tells S h p (said.Check t) = check_tells S h p t (outcome_of S t h) (opening S t h) refl
 closed_said_tells S h p (said.Pay r) = tt
 closed_said_tells S h p (said.Auth a) = tt
 closed_said_tells S h p (said.Confirmed t) = tt
 closed_said_tells S h p said.Foreign = tt
 
-closed_on_tells : (S : List SetupLine) (h : List Entry) (v : Event) → StatusTells S h (reply_closed_on S h v) v
+closed_on_tells : (S : List SetupLine) (h : List Entry) (v : Event) → StatusIs S h (reply_closed_on S h v) v
 closed_on_tells S h (event.Heard p what) = closed_said_tells S h p what
 closed_on_tells S h event.Unread = tt
 closed_on_tells S h (event.Ordered t l) = tt
@@ -148,14 +149,14 @@ closed_on_tells S h event.Lost = tt
 closed_on_tells S h (event.Late t) = tt
 closed_on_tells S h event.Close = tt
 
-closed_tells : (S : List SetupLine) (h : List Entry) (c : Call) → StatusTells S h (reply_closed S h c) (event_of h c)
+closed_tells : (S : List SetupLine) (h : List Entry) (c : Call) → StatusIs S h (reply_closed S h c) (event_of h c)
 closed_tells S h (call.Hear p what) = closed_on_tells S h (event_of h (call.Hear p what))
 closed_tells S h (call.Deliver n) = tt
 closed_tells S h (call.Lose n) = tt
 closed_tells S h (call.Late t) = tt
 closed_tells S h call.Close = tt
 
-reply_tells : (S : List SetupLine) (h : List Entry) (c : Call) (now : ℕ) → StatusTells S h (reply_to S h c now) (event_of h c)
+reply_tells : (S : List SetupLine) (h : List Entry) (c : Call) (now : ℕ) → StatusIs S h (reply_to S h c now) (event_of h c)
 reply_tells S h c now = either_tells S h (is_closed h) (reply_closed S h c) (reply_on S h (event_of h c) now) (event_of h c) (closed_tells S h c) (on_tells S h (event_of h c) now)
 
 -- ---- a check decides nothing
@@ -185,7 +186,7 @@ check_decides_nothing S h e p t u is =
 
 -- ---- from there
 
-of_check : (S : List SetupLine) (h : List Entry) (r : Reply) (v : Event) → StatusTells S h r v → IsOfCheck r v
+of_check : (S : List SetupLine) (h : List Entry) (r : Reply) (v : Event) → StatusIs S h r v → IsOfCheck r v
 of_check S h (reply.Status x) (event.Heard p (said.Check t)) k = tt
 of_check S h (reply.Status x) (event.Heard p (said.Pay _)) k = absurd k
 of_check S h (reply.Status x) (event.Heard p (said.Auth _)) k = absurd k
@@ -223,10 +224,10 @@ given_checked t reply.Acted v x k = absurd cc
 given_checked t reply.NotDue v x k = absurd cc
 given_checked t reply.Closed v x k = absurd cc
 
-status_stood : (S : List SetupLine) (h : List Entry) (t : List ℕ) (r : Reply) (v : Event) (x : Option Outcome) → StatusTells S h r v → status_in t r v ≡ Some x → x ≡ outcome_of S t h
+status_stood : (S : List SetupLine) (h : List Entry) (t : List ℕ) (r : Reply) (v : Event) (x : Option Outcome) → StatusIs S h r v → status_in t r v ≡ Some x → x ≡ outcome_of S t h
 status_stood S h t r v x k is =
     let g = given_checked t r v x is in
-    let same : StatusTells S h r v ≡ (x ≡ outcome_of S t h) = λ i. StatusTells S h (g.2 i) (g.1 i) in
+    let same : StatusIs S h r v ≡ (x ≡ outcome_of S t h) = λ i. StatusIs S h (g.2 i) (g.1 i) in
     subst (λ (X : Type 0). X) same k
 
 body_told : (S : List SetupLine) (h : List Entry) (t : List ℕ) (from to : Party) (b : Body) (x : Outcome) → BackedBy S h from to b → outcome_in t b ≡ Some x → outcome_of S t h ≡ Some x
@@ -248,10 +249,36 @@ pub outcome_told : OutcomeTold
 outcome_told S t later e before l =
     let here = legal_before S later (e ∷ before) l in
     let v = event_of before e.call in
-    let replied : StatusTells S before e.reply v = subst (λ (r : Reply). StatusTells S before r v) (sym here.1.replied) (reply_tells S before e.call e.at) in
+    let replied : StatusIs S before e.reply v = subst (λ (r : Reply). StatusIs S before r v) (sym here.1.replied) (reply_tells S before e.call e.at) in
     record {
       checked = of_check S before e.reply v replied;
       stood = λ x is. status_stood S before t e.reply v x replied is;
       status = λ x is. let g = given_checked t e.reply v x is in status_stood S before t e.reply v x replied is ∙ sym (check_decides_nothing S before e g.0 t t g.1);
       messages = all_told S (e ∷ before) t e.sent (backed_when_sent S later e before l);
+    }
+
+-- ---- at the place of the outcome and behind it, and before it
+
+all_carry : (t : List ℕ) (x : Outcome) (stands : Option Outcome) (xs : List Sent) → stands ≡ Some x → AllTell t stands xs → AllByRecursion (λ (s : Sent). (y : Outcome) → outcome_in t s.body ≡ Some y → y ≡ x) xs
+all_carry t x stands [] is k = tt
+all_carry t x stands (s ∷ xs) is k = (λ y told. some_same y x (sym (k.0 y told) ∙ is), all_carry t x stands xs is k.1)
+
+none_tells : (t : List ℕ) (stands : Option Outcome) (o : Option Outcome) → stands ≡ None → ((x : Outcome) → o ≡ Some x → stands ≡ Some x) → o ≡ None
+none_tells t stands None is k = refl
+none_tells t stands (Some x) is k = absurd (none_some stands x is (k x refl))
+
+all_silent : (t : List ℕ) (stands : Option Outcome) (xs : List Sent) → stands ≡ None → AllTell t stands xs → AllByRecursion (λ (s : Sent). outcome_in t s.body ≡ None) xs
+all_silent t stands [] is k = tt
+all_silent t stands (s ∷ xs) is k = (none_tells t stands (outcome_in t s.body) is k.0, all_silent t stands xs is k.1)
+
+pub outcomes_are_carried : OutcomesAreCarried
+outcomes_are_carried S t later e before l =
+    let k = outcome_told S t later e before l in
+    let stands = outcome_of S t (e ∷ before) in
+    record {
+      status_carries = λ x y is given. k.status y given ∙ is;
+      messages_carry = λ x is. all_carry t x stands e.sent is k.messages;
+      for_good = λ x is. outcome_stays S t later (e ∷ before) x is;
+      status_pends = λ y is given. k.status y given ∙ is;
+      none_tell = λ is. all_silent t stands e.sent is k.messages;
     }

@@ -1,9 +1,10 @@
 -- What stands behind each message of a legal history, and what its entries tell of outcomes.
-use Rattle.std.specs.Prelude.{ℕ, ◌≡◌, Bool, true, false, List, [], ◌∷◌, ◌++◌, Option, Some, None, is_some}
+use Rattle.std.specs.Prelude.{ℕ, ◌≡◌, ◌⊎◌, Bool, true, false, List, [], ◌∷◌, ◌++◌, Option, Some, None, is_some}
 use Rattle.std.specs.Option.{option_and_then}
 use Rattle.std.specs.List.{AllByRecursion}
 use Rattle.std.specs.Str.{bytes_eq}
 use Rattle.upi_base.specs.declared.entry.Entry.{Entry}
+use Rattle.upi_base.specs.declared.entry.Call.{Call}
 use Rattle.upi_base.specs.declared.message.PayReq.{PayReq}
 use Rattle.upi_base.specs.declared.sent.Sent.{Sent}
 use Rattle.upi_base.specs.declared.sent.AuthQuestion.{AuthQuestion}
@@ -15,6 +16,7 @@ use Rattle.upi_base.specs.declared.code.Kind.{Kind}
 use Rattle.upi_base.specs.declared.code.Leg.{Leg}
 use Rattle.upi_base.specs.declared.code.Leg.TheVariants as leg
 use Rattle.upi_base.specs.declared.code.Answer.{Answer}
+use Rattle.upi_base.specs.declared.code.Answer.TheVariants as answered
 use Rattle.upi_base.specs.declared.code.Outcome.{Outcome}
 use Rattle.upi_base.specs.declared.code.Policy.{Policy}
 use Rattle.upi_base.specs.declared.code.Policy.TheVariants as policy
@@ -35,10 +37,11 @@ use Rattle.upi_laws.specs.declared.places.Decision.{Decision}
 use Rattle.upi_laws.specs.declared.places.Decision.TheVariants as decided
 use Rattle.upi_laws.specs.declared.places.LegEnd.{LegEnd}
 use Rattle.upi_laws.specs.declared.places.LegEnd.TheVariants as ended
-use Rattle.upi_laws.specs.History.{sent, message_at, event_of}
-use Rattle.upi_laws.specs.Places.{side, asking, asked, opening, decision, debit, cause}
+use Rattle.upi_laws.specs.History.{sent, message_at, is_closed, event_of}
+use Rattle.upi_laws.specs.Places.{side, asking, asked, opening, decision, debit, credit, cause, reversal}
 use Rattle.upi_laws.specs.Outcomes.{outcome_of}
 use Rattle.upi_laws.specs.Postings.{posted_at, answer}
+use Rattle.upi_laws.specs.Replies.{order_answer}
 use Rattle.upi_laws.specs.Legal.{Legal}
 
 -- the question to the asked PSP has the terms of the opening
@@ -175,3 +178,60 @@ pub record EntryTells (S : List SetupLine) (t : List ℕ) (before : List Entry) 
 
 abbrev pub OutcomeTold : Type 0
 OutcomeTold = (S : List SetupLine) (t : List ℕ) (later : List Entry) (e : Entry) (before : List Entry) → Legal S (later ++ e ∷ before) → EntryTells S t before e
+
+-- an order arrives only behind the place that orders it
+abbrev pub OrdersArePlaced : Type 0
+OrdersArePlaced = (S : List SetupLine) (h : List Entry) (c : Call) (t : List ℕ) (l : Leg) → Legal S h → event_of h c ≡ event.Ordered t l → OrderPlaced S h t l
+
+-- and its bank has an answer
+abbrev pub OrdersAreAnswered : Type 0
+OrdersAreAnswered = (S : List SetupLine) (h : List Entry) (c : Call) (t : List ℕ) (l : Leg) → Legal S h → event_of h c ≡ event.Ordered t l → (a : Answer) × (order_answer S h t l ≡ Some a)
+
+-- a bank's answer that arrives is the leg's
+abbrev pub AnswersStand : Type 0
+AnswersStand = (S : List SetupLine) (h : List Entry) (c : Call) (t : List ℕ) (l : Leg) (a : Answer) → Legal S h → event_of h c ≡ event.Answered t l a → answer S h t l ≡ Some a
+
+-- the leg has ended for the switch
+abbrev pub has_ended : List SetupLine → List Entry → List ℕ → Leg → Bool
+has_ended S h t leg.Debit = is_some (debit S t h)
+has_ended S h t leg.Credit = is_some (credit S t h)
+has_ended S h t leg.Reversal = is_some (reversal S t h)
+
+-- where a bank's answer arrives before a Close, the leg has then ended
+abbrev pub AnswersEnd : Type 0
+AnswersEnd = (S : List SetupLine) (h : List Entry) (e : Entry) (t : List ℕ) (l : Leg) (a : Answer) → Legal S h → is_closed h ≡ false → event_of h e.call ≡ event.Answered t l a → has_ended S (e ∷ h) t l ≡ true
+
+-- behind which place a leg is answered: for the reversal also where the close ended the debit
+abbrev pub AnswerPlaced : List SetupLine → List Entry → List ℕ → Leg → Type 0
+AnswerPlaced S h t leg.Debit = (at : ℕ) × (decision S t h ≡ Some (decided.Yes at))
+AnswerPlaced S h t leg.Credit = (at : ℕ) × (debit S t h ≡ Some (ended.Posted at))
+AnswerPlaced S h t leg.Reversal = (is_some (cause S t h) ≡ true) ⊎ (debit S t h ≡ Some ended.Close)
+
+-- how a leg was answered that ended so
+abbrev pub EndAnswered : Option Answer → LegEnd → Type 0
+EndAnswered a (ended.Posted at) = a ≡ Some answered.Posted
+EndAnswered a (ended.Declined c) = a ≡ Some (answered.Declined c)
+EndAnswered a ended.Late = Unit {0}
+EndAnswered a ended.Close = Unit {0}
+
+-- what the ends of the legs say of their answers, and their answers of the ends before them
+pub record LegsAreAnswered (S : List SetupLine) (t : List ℕ) (h : List Entry) : Type 0 where
+  pub placed : (l : Leg) (a : Answer) → answer S h t l ≡ Some a → AnswerPlaced S h t l
+  pub debited : (d : LegEnd) → debit S t h ≡ Some d → EndAnswered (answer S h t leg.Debit) d
+  pub credited : (d : LegEnd) → credit S t h ≡ Some d → EndAnswered (answer S h t leg.Credit) d
+  pub reversed : (k : ℕ) → reversal S t h ≡ Some k → is_some (answer S h t leg.Reversal) ≡ true
+  pub cut : debit S t h ≡ Some ended.Close → is_some (answer S h t leg.Reversal) ≡ true
+
+abbrev pub AllLegsAreAnswered : Type 0
+AllLegsAreAnswered = (S : List SetupLine) (t : List ℕ) (h : List Entry) → Legal S h → LegsAreAnswered S t h
+
+-- Which statuses and messages on a transaction an entry has: at and behind the place at which the outcome comes each of them carries it, which is the outcome for good. Before that place each status is that there is none, and no message tells one.
+pub record OutcomeCarried (S : List SetupLine) (t : List ℕ) (later : List Entry) (e : Entry) (before : List Entry) : Type 0 where
+  pub status_carries : (x : Outcome) (y : Option Outcome) → outcome_of S t (e ∷ before) ≡ Some x → status_in t e.reply (event_of before e.call) ≡ Some y → y ≡ Some x
+  pub messages_carry : (x : Outcome) → outcome_of S t (e ∷ before) ≡ Some x → AllByRecursion (λ (s : Sent). (y : Outcome) → outcome_in t s.body ≡ Some y → y ≡ x) e.sent
+  pub for_good : (x : Outcome) → outcome_of S t (e ∷ before) ≡ Some x → outcome_of S t (later ++ e ∷ before) ≡ Some x
+  pub status_pends : (y : Option Outcome) → outcome_of S t (e ∷ before) ≡ None → status_in t e.reply (event_of before e.call) ≡ Some y → y ≡ None
+  pub none_tell : outcome_of S t (e ∷ before) ≡ None → AllByRecursion (λ (s : Sent). outcome_in t s.body ≡ None) e.sent
+
+abbrev pub OutcomesAreCarried : Type 0
+OutcomesAreCarried = (S : List SetupLine) (t : List ℕ) (later : List Entry) (e : Entry) (before : List Entry) → Legal S (later ++ e ∷ before) → OutcomeCarried S t later e before

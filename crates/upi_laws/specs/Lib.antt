@@ -11,3 +11,4 @@ pub mod Owners
 pub mod Laws
 pub mod Sound
 pub mod Backed
+pub mod Tellings

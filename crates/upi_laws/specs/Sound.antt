@@ -193,6 +193,18 @@ LegalTells = (S : List SetupLine) (later P : List Entry) → Legal S (later ++ P
 abbrev pub LegalPostsOnce : Type 0
 LegalPostsOnce = (S : List SetupLine) (later P : List Entry) → Legal S (later ++ P) → LegsPostOnce S P (later ++ P)
 
+-- no COLLECT is debited without its payer's approval
+abbrev pub LegalApproves : Type 0
+LegalApproves = (S : List SetupLine) (P : List Entry) → Legal S P → CollectsApproved S P
+
+-- balances and money in flight keep their sum
+abbrev pub LegalKeepsMoney : Type 0
+LegalKeepsMoney = (S : List SetupLine) (P : List Entry) → is_setup S ≡ true → Legal S P → MoneyKept S P
+
+-- the close settles every transaction, and all banks balance
+abbrev pub LegalClosesSound : Type 0
+LegalClosesSound = (S : List SetupLine) (P : List Entry) → is_setup S ≡ true → Legal S P → JustClosed P → ClosesSound S P
+
 -- every legal history is sound
 abbrev pub LegalIsSound : Type 0
 LegalIsSound = (S : List SetupLine) (H : List Entry) → is_setup S ≡ true → Legal S H → Sound S H

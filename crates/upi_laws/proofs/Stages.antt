@@ -1,0 +1,62 @@
+-- Which places a transaction has together.
+use Rattle.std.proofs.Common.{◌≡◌, ℕ, Bool, true, false, List, Option, Some, None, refl, sym, subst}
+use Rattle.std.specs.Prelude.{is_some}
+use Rattle.upi_base.specs.declared.entry.Entry.{Entry}
+use Rattle.upi_base.specs.declared.code.Code.{Code}
+use Rattle.upi_base.specs.declared.setup.SetupLine.{SetupLine}
+use Rattle.upi_laws.specs.declared.places.Decision.{Decision}
+use Rattle.upi_laws.specs.declared.places.Decision.TheVariants as decided
+use Rattle.upi_laws.specs.declared.places.LegEnd.{LegEnd}
+use Rattle.upi_laws.specs.declared.places.LegEnd.TheVariants as ended
+use Rattle.upi_laws.specs.Places.{decision, debit, credit, cause_by, cause, reversal}
+use Rattle.upi_laws.specs.Tellings.{IsStage, PlacesAreStages}
+use Rattle.upi_laws.proofs.Stays.{is_some_has}
+use Rattle.upi_laws.proofs.Facts.{debit_approved, credit_debited, reversal_caused}
+
+abbrev IsYes : Option Decision → Type 0
+IsYes (Some (decided.Yes at)) = Unit {0}
+IsYes _ = ⊥
+
+abbrev IsPosted : Option LegEnd → Type 0
+IsPosted (Some (ended.Posted at)) = Unit {0}
+IsPosted _ = ⊥
+
+abbrev IsThere : {X : Type 0} → Option X → Type 0
+IsThere None = ⊥
+IsThere (Some x) = Unit {0}
+
+stage_by : (a : Option Decision) (d c : Option LegEnd) (back : Option ℕ) → (is_some d ≡ true → IsYes a) → (is_some c ≡ true → IsPosted d) → (is_some back ≡ true → IsThere (cause_by d c)) → IsStage a d c back
+stage_by None None None None hd hc hb = tt
+stage_by (Some decided.No) None None None hd hc hb = tt
+stage_by (Some decided.Late) None None None hd hc hb = tt
+stage_by (Some decided.Close) None None None hd hc hb = tt
+stage_by (Some (decided.Yes at)) None None None hd hc hb = tt
+stage_by a None None (Some k) hd hc hb = absurd (hb refl)
+stage_by a None (Some x) back hd hc hb = absurd (hc refl)
+stage_by None (Some y) c back hd hc hb = absurd (hd refl)
+stage_by (Some decided.No) (Some y) c back hd hc hb = absurd (hd refl)
+stage_by (Some decided.Late) (Some y) c back hd hc hb = absurd (hd refl)
+stage_by (Some decided.Close) (Some y) c back hd hc hb = absurd (hd refl)
+stage_by (Some (decided.Yes at)) (Some (ended.Declined x)) None None hd hc hb = tt
+stage_by (Some (decided.Yes at)) (Some (ended.Declined x)) None (Some k) hd hc hb = absurd (hb refl)
+stage_by (Some (decided.Yes at)) (Some (ended.Declined x)) (Some y) back hd hc hb = absurd (hc refl)
+stage_by (Some (decided.Yes at)) (Some ended.Close) None None hd hc hb = tt
+stage_by (Some (decided.Yes at)) (Some ended.Close) None (Some k) hd hc hb = absurd (hb refl)
+stage_by (Some (decided.Yes at)) (Some ended.Close) (Some y) back hd hc hb = absurd (hc refl)
+stage_by (Some (decided.Yes at)) (Some ended.Late) None back hd hc hb = tt
+stage_by (Some (decided.Yes at)) (Some ended.Late) (Some y) back hd hc hb = absurd (hc refl)
+stage_by (Some (decided.Yes at)) (Some (ended.Posted j)) None None hd hc hb = tt
+stage_by (Some (decided.Yes at)) (Some (ended.Posted j)) None (Some k) hd hc hb = absurd (hb refl)
+stage_by (Some (decided.Yes at)) (Some (ended.Posted j)) (Some (ended.Declined x)) back hd hc hb = tt
+stage_by (Some (decided.Yes at)) (Some (ended.Posted j)) (Some (ended.Posted i)) None hd hc hb = tt
+stage_by (Some (decided.Yes at)) (Some (ended.Posted j)) (Some (ended.Posted i)) (Some k) hd hc hb = absurd (hb refl)
+stage_by (Some (decided.Yes at)) (Some (ended.Posted j)) (Some ended.Late) None hd hc hb = tt
+stage_by (Some (decided.Yes at)) (Some (ended.Posted j)) (Some ended.Late) (Some k) hd hc hb = absurd (hb refl)
+stage_by (Some (decided.Yes at)) (Some (ended.Posted j)) (Some ended.Close) None hd hc hb = tt
+stage_by (Some (decided.Yes at)) (Some (ended.Posted j)) (Some ended.Close) (Some k) hd hc hb = absurd (hb refl)
+
+pub places_are_stages : PlacesAreStages
+places_are_stages S t h = stage_by (decision S t h) (debit S t h) (credit S t h) (reversal S t h)
+    (λ s. let d = is_some_has (debit S t h) s in subst IsYes (sym (debit_approved S t h d.0 d.1).1) tt)
+    (λ s. let c = is_some_has (credit S t h) s in subst IsPosted (sym (credit_debited S t h c.0 c.1).1) tt)
+    (λ s. let k = is_some_has (reversal S t h) s in subst (λ (c : Option Code). IsThere c) (sym (reversal_caused S t h k.0 k.1).1) tt)
