@@ -12,3 +12,5 @@ pub mod Deliveries
 pub mod Legs
 pub mod Approved
 pub mod Setups
+pub mod Sums
+pub mod Ints
