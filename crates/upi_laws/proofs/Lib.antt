@@ -14,3 +14,5 @@ pub mod Approved
 pub mod Setups
 pub mod Stages
 pub mod Tellings
+pub mod Sums
+pub mod Ints
