@@ -14,3 +14,4 @@ pub mod Approved
 pub mod Setups
 pub mod Stages
 pub mod Tellings
+pub mod Waits

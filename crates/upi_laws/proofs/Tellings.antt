@@ -58,14 +58,14 @@ use Rattle.upi_laws.proofs.Deliveries.{is_closing, cut_closes}
 
 -- ---- counts
 
-abbrev tally : (Sent → Bool) → List Sent → ℕ
+abbrev pub tally : (Sent → Bool) → List Sent → ℕ
 tally p [] = 0
 tally p (x ∷ xs) = cond (p x) (1 + tally p xs) (tally p xs)
 
 tally_is : (p : Sent → Bool) (xs : List Sent) → tally p xs ≡ count_by p xs
 tally_is p xs = is_count_by (tally p) p refl (λ x xs. refl) xs
 
-tally_append : (p : Sent → Bool) (xs ys : List Sent) → tally p (xs ++ ys) ≡ tally p xs + tally p ys
+pub tally_append : (p : Sent → Bool) (xs ys : List Sent) → tally p (xs ++ ys) ≡ tally p xs + tally p ys
 tally_append p [] ys = omega arith
 tally_append p (x ∷ xs) ys = go (p x) (tally_append p xs ys)
   where
@@ -216,6 +216,11 @@ not_told false d m = refl
 
 -- ---- what a place tells
 
+pub places_tally : (p : Sent → Bool) (S : List SetupLine) (r : PayReq) (x : Option Outcome) (a : Option Decision) (d c : Option LegEnd) (back : Option ℕ)
+    → tally p (sent_by_places S r x a d c back) ≡ tally p (sent_on_decision S r x a) + tally p (sent_on_debit S r x d) + tally p (sent_on_credit S r x c) + tally p (sent_on_reversal r x back)
+places_tally p S r x a d c back =
+    omega (arith, tally_append p (sent_on_decision S r x a ++ sent_on_debit S r x d ++ sent_on_credit S r x c) (sent_on_reversal r x back), tally_append p (sent_on_decision S r x a ++ sent_on_debit S r x d) (sent_on_credit S r x c), tally_append p (sent_on_decision S r x a) (sent_on_debit S r x d))
+
 module _ (p : Sent → Bool) (t : List ℕ) (m : ℕ) (k : IsTold p t m) where
   other_one : (s : Sent) → p s ≡ false → tally p (s ∷ []) ≡ 0
   other_one s e = ap (λ (b : Bool). cond b (1 + 0) 0) e
@@ -227,16 +232,11 @@ module _ (p : Sent → Bool) (t : List ℕ) (m : ℕ) (k : IsTold p t m) where
       go None = refl
       go (Some a) = other_one (record { from = party.Switch; to = party.Bank a.ac.bank; body = body.Order r.txn l r.amount a.ac (posted_at l r) }) (k.others party.Switch (party.Bank a.ac.bank) (body.Order r.txn l r.amount a.ac (posted_at l r)) tt)
 
-  places_tally : (S : List SetupLine) (r : PayReq) (x : Option Outcome) (a : Option Decision) (d c : Option LegEnd) (back : Option ℕ)
-      → tally p (sent_by_places S r x a d c back) ≡ tally p (sent_on_decision S r x a) + tally p (sent_on_debit S r x d) + tally p (sent_on_credit S r x c) + tally p (sent_on_reversal r x back)
-  places_tally S r x a d c back =
-      omega (arith, tally_append p (sent_on_decision S r x a ++ sent_on_debit S r x d ++ sent_on_credit S r x c) (sent_on_reversal r x back), tally_append p (sent_on_decision S r x a ++ sent_on_debit S r x d) (sent_on_credit S r x c), tally_append p (sent_on_decision S r x a) (sent_on_debit S r x d))
-
   -- the question ends
   asked_tally : (S : List SetupLine) (o : Opening) (a : Option Decision) → (a ≡ Some decided.Close → ⊥)
       → tally p (sent_by_places S o.terms (outcome_by (Some o) a None None false) a None None None) ≡ told_new (cond (bytes_eq o.terms.txn t) 1 0) None (outcome_by (Some o) a None None false)
   asked_tally S o None n = refl
-  asked_tally S o (Some (decided.Yes at)) n = omega (arith, places_tally S o.terms None (Some (decided.Yes at)) None None None, orders_none S o.terms leg.Debit)
+  asked_tally S o (Some (decided.Yes at)) n = omega (arith, places_tally p S o.terms None (Some (decided.Yes at)) None None None, orders_none S o.terms leg.Debit)
   asked_tally S o (Some decided.No) n = k.told o.terms _
   asked_tally S o (Some decided.Late) n = k.told o.terms _
   asked_tally S o (Some decided.Close) n = absurd (n refl)
@@ -245,9 +245,9 @@ module _ (p : Sent → Bool) (t : List ℕ) (m : ℕ) (k : IsTold p t m) where
   debited_tally : (S : List SetupLine) (r : PayReq) (d : Option LegEnd) → (d ≡ Some ended.Close → ⊥)
       → tally p (sent_by_places S r (debit_outcome d None false) None d None None) ≡ told_new (cond (bytes_eq r.txn t) 1 0) None (debit_outcome d None false)
   debited_tally S r None n = refl
-  debited_tally S r (Some (ended.Posted at)) n = omega (arith, places_tally S r None None (Some (ended.Posted at)) None None, orders_none S r leg.Credit)
+  debited_tally S r (Some (ended.Posted at)) n = omega (arith, places_tally p S r None None (Some (ended.Posted at)) None None, orders_none S r leg.Credit)
   debited_tally S r (Some (ended.Declined c)) n = k.told r _
-  debited_tally S r (Some ended.Late) n = omega (arith, places_tally S r None None (Some ended.Late) None None, orders_none S r leg.Reversal)
+  debited_tally S r (Some ended.Late) n = omega (arith, places_tally p S r None None (Some ended.Late) None None, orders_none S r leg.Reversal)
   debited_tally S r (Some ended.Close) n = absurd (n refl)
 
   -- the credit ends
@@ -255,7 +255,7 @@ module _ (p : Sent → Bool) (t : List ℕ) (m : ℕ) (k : IsTold p t m) where
       → tally p (sent_by_places S r (credit_outcome c false) None None c None) ≡ told_new (cond (bytes_eq r.txn t) 1 0) None (credit_outcome c false)
   credited_tally S r None n = refl
   credited_tally S r (Some (ended.Posted at)) n = k.told r _
-  credited_tally S r (Some (ended.Declined c)) n = omega (arith, places_tally S r None None None (Some (ended.Declined c)) None, orders_none S r leg.Reversal)
+  credited_tally S r (Some (ended.Declined c)) n = omega (arith, places_tally p S r None None None (Some (ended.Declined c)) None, orders_none S r leg.Reversal)
   credited_tally S r (Some ended.Late) n = k.told r _
   credited_tally S r (Some ended.Close) n = absurd (n refl)
 
