@@ -1,5 +1,9 @@
 -- Words on lists that every layer uses.
+<<<<<<< HEAD
 use Rattle.std.specs.Prelude.{Bool, cond, List, [], ◌∷◌, ◌++◌, Option, Some, None}
+=======
+use Rattle.std.specs.Prelude.{ℕ, suc, Bool, cond, if◌then◌else◌, List, [], ◌∷◌, ◌++◌, Option, Some, None}
+>>>>>>> baec325e412454388fb4a44887ff7ac82b4f4d57
 use Rattle.std.specs.Option.{option_or}
 
 -- the value, where the test says yes
@@ -15,3 +19,8 @@ pick f (x ∷ xs) = option_or (f x) (pick f xs)
 abbrev pub joined : {X : Type 0} → List X → Option X → List X
 joined xs None = xs
 joined xs (Some x) = xs ++ x ∷ []
+
+-- the elements that p picks, each with its place, of a list whose first place is k
+abbrev pub picked : {X : Type 0} → (X → Bool) → ℕ → List X → List (ℕ × X)
+picked p k [] = []
+picked p k (x ∷ xs) = if p x then (k, x) ∷ picked p (suc k) xs else picked p (suc k) xs

@@ -1,7 +1,7 @@
 -- The setup: what its lines say, and the order in which a line is judged by the lines before it.
-use Rattle.std.specs.Prelude.{ℕ, ◌==◌, nat_le, Bool, true, false, not, ◌&&◌, if◌then◌else◌, List, [], ◌∷◌, ◌++◌, Option, Some, None, is_none, is_some}
+use Rattle.std.specs.Prelude.{ℕ, ◌≡◌, ◌≤◌, ◌==◌, nat_le, Bool, true, false, not, ◌&&◌, if◌then◌else◌, List, [], ◌∷◌, ◌++◌, Option, Some, None, is_none, is_some}
 use Rattle.std.specs.Option.{option_and_then}
-use Rattle.std.specs.List.{list_any, count_by}
+use Rattle.std.specs.List.{list_any, count_by, AllByRecursion}
 use Rattle.std.specs.Str.{bytes_eq}
 use Rattle.upi_base.specs.declared.setup.AccountRef.{AccountRef}
 use Rattle.upi_base.specs.declared.setup.Account.{Account}
@@ -11,6 +11,7 @@ use Rattle.upi_base.specs.declared.setup.SetupLine.TheVariants as line
 use Rattle.upi_base.specs.declared.fault.Why.{Why}
 use Rattle.upi_base.specs.declared.fault.Why.TheVariants as why
 use Rattle.upi_base.specs.Lists.{when, pick}
+use Rattle.upi_base.specs.Money.{max_paise}
 
 abbrev pub same_account : AccountRef → AccountRef → Bool
 same_account a b = bytes_eq a.bank b.bank && bytes_eq a.num b.num
@@ -112,3 +113,37 @@ accepts_from S (l ∷ ls) = is_none (setup_fault S l) && accepts_from (S ++ l �
 -- a setup whose lines are all accepted
 abbrev pub is_setup : List SetupLine → Bool
 is_setup S = accepts_from [] S
+
+-- the accounts that a line gives: one, or none
+abbrev pub line_accounts : SetupLine → List Account
+line_accounts (line.Account ac opening no_debit no_credit) = (record { ac = ac; opening = opening; no_debit = no_debit; no_credit = no_credit }) ∷ []
+line_accounts _ = []
+
+-- the accounts of a setup, in its order
+abbrev pub accounts : List SetupLine → List Account
+accounts [] = []
+accounts (l ∷ ls) = line_accounts l ++ accounts ls
+
+-- the account is found by its name
+abbrev pub IsNamed : List SetupLine → Account → Type 0
+IsNamed S a = account_named S a.ac ≡ Some a
+
+-- What holds of an accepted setup: the account and the PSP of each address are there, as is the bank of each account, and each account is there once.
+pub record IsSound (S : List SetupLine) : Type 0 where
+  pub account_there : (addr : List ℕ) (l : Listing) → listing_at S addr ≡ Some l → is_some (account_named S l.ac) ≡ true
+  pub psp_there : (addr : List ℕ) (l : Listing) → listing_at S addr ≡ Some l → has_psp S (provider addr) ≡ true
+  pub bank_there : (ac : AccountRef) (a : Account) → account_named S ac ≡ Some a → has_bank S ac.bank ≡ true
+  pub account_once : (ac : AccountRef) (a : Account) → account_named S ac ≡ Some a → count_by (λ (b : Account). same_account b.ac ac) (accounts S) ≡ 1
+  pub named : AllByRecursion (IsNamed S) (accounts S)
+
+abbrev pub AcceptedAreSound : Type 0
+AcceptedAreSound = (S : List SetupLine) → is_setup S ≡ true → IsSound S
+
+-- a setup with one line more that is accepted behind it is a setup
+abbrev pub SetupsExtend : Type 0
+SetupsExtend = (S : List SetupLine) (l : SetupLine) → is_setup S ≡ true → setup_fault S l ≡ None → is_setup (S ++ l ∷ []) ≡ true
+
+-- the account that a line gives opens within the range of sums
+abbrev pub OpensWithin : SetupLine → Type 0
+OpensWithin (line.Account ac opening no_debit no_credit) = opening ≤ max_paise
+OpensWithin _ = Unit {0}

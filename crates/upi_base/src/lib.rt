@@ -10,6 +10,7 @@ pub mod code;
 pub mod directory;
 pub mod entry;
 pub mod fault;
+pub mod laws;
 pub mod message;
 pub mod minutes;
 pub mod moment;
@@ -19,6 +20,7 @@ pub mod sent;
 pub mod settled;
 pub mod setup;
 pub mod shards;
+mod stamp;
 pub mod text;
 
 pub use boxed::Boxed;
@@ -31,13 +33,13 @@ pub use fault::{NoMemory, Why};
 pub use message::{Api, AuthResp, BadMessage, Chk, ConfResp, Head, Input, Message, MsgWhy, PayReq};
 pub use minutes::Minutes;
 pub use moment::Moment;
-pub use paise::Paise;
+pub use paise::{Paise, write_number, write_sum};
 pub use rules::{
     AccountRule, AddressRule, BankRule, MessageRule, NoteRule, OrgRule, PathRule, PspRule, TxnRule,
 };
 pub use sent::{AuthQuestion, Body, Party, Sent, SentList};
 pub use settled::{AuditWhy, Item, Position, Recon, Side, TxnRow, Verdict};
-pub use setup::{Account, AccountRef, Listing, Setup, SetupLine, SetupLines};
+pub use setup::{Account, AccountRef, Listing, Setup, SetupLine, SetupLines, write_account};
 pub use shards::{account_shard, txn_shard};
 pub use text::{Rule, Text};
 

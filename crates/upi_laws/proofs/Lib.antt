@@ -14,4 +14,6 @@ pub mod Approved
 pub mod Setups
 pub mod Stages
 pub mod Tellings
+pub mod Sums
+pub mod Ints
 pub mod Waits

@@ -1,3 +1,4 @@
 pub mod Messages
 pub mod Totals
 pub mod Steps
+pub mod Says

@@ -39,7 +39,7 @@ openings_of S h = go (opened S h)
     go (o ∷ os) = ap (λ (xs : List Opening). o ∷ xs) (go os)
 
 -- a sum over the rows is one over the openings
-sum_map : {X Y : Type 0} → (f : Y → ℕ) (g : X → Y) (xs : List X) → sum_by f (map g xs) ≡ sum_by (λ (x : X). f (g x)) xs
+pub sum_map : {X Y : Type 0} → (f : Y → ℕ) (g : X → Y) (xs : List X) → sum_by f (map g xs) ≡ sum_by (λ (x : X). f (g x)) xs
 sum_map f g [] = refl
 sum_map f g (x ∷ xs) =
     sum_by-cons f (g x) (map g xs) ∙ (ap (λ (n : ℕ). f (g x) + n) (sum_map f g xs) ∙ sym (sum_by-cons (λ x. f (g x)) x xs))
@@ -83,7 +83,7 @@ row_more S e h o is = λ i. record {
 }
 
 -- nothing is decided of a transaction that was not opened, nor at the entry that opens it
-undecided : (S : List SetupLine) (t : List ℕ) (h : List Entry) → opening S t h ≡ None → decision S t h ≡ None
+pub undecided : (S : List SetupLine) (t : List ℕ) (h : List Entry) → opening S t h ≡ None → decision S t h ≡ None
 undecided S t h n = none_if (decision S t h) (λ d e. let o = decided_opened S t h d e in none_some (opening S t h) o.0 n o.1)
 
 unanswered : (S : List SetupLine) (e : Entry) (h : List Entry) (t : List ℕ) (l : Leg) → opening S t h ≡ None → answer S (e ∷ h) t l ≡ None

@@ -5,7 +5,12 @@ use Rattle.std.specs.List.{sum_by, count_by}
 use Rattle.upi_base.specs.declared.entry.Entry.{Entry}
 use Rattle.upi_base.specs.declared.code.Leg.{Leg}
 use Rattle.upi_base.specs.declared.code.Leg.TheVariants as leg
+use Rattle.upi_base.specs.declared.entry.Call.{Call}
+use Rattle.upi_base.specs.declared.entry.Call.TheVariants as call
 use Rattle.upi_base.specs.declared.code.Code.{Code}
+use Rattle.upi_base.specs.declared.code.Code.TheVariants as code
+use Rattle.upi_base.specs.declared.code.Reply.{Reply}
+use Rattle.upi_base.specs.declared.code.Reply.TheVariants as reply
 use Rattle.upi_base.specs.declared.code.Answer.{Answer}
 use Rattle.upi_base.specs.declared.code.Outcome.{Outcome}
 use Rattle.upi_base.specs.declared.setup.AccountRef.{AccountRef}
@@ -13,7 +18,10 @@ use Rattle.upi_base.specs.declared.setup.Account.{Account}
 use Rattle.upi_base.specs.declared.setup.SetupLine.{SetupLine}
 use Rattle.upi_base.specs.Lists.{when, pick, joined}
 use Rattle.upi_base.specs.Setup.{account_at}
+use Rattle.upi_laws.specs.declared.event.Said.{Said}
+use Rattle.upi_laws.specs.declared.event.Said.TheVariants as said
 use Rattle.upi_laws.specs.declared.event.Event.{Event}
+use Rattle.upi_laws.specs.declared.event.Event.TheVariants as event
 use Rattle.upi_laws.specs.declared.places.Opening.{Opening}
 use Rattle.upi_laws.specs.declared.places.Decision.{Decision}
 use Rattle.upi_laws.specs.declared.places.LegEnd.{LegEnd}
@@ -22,8 +30,8 @@ use Rattle.upi_laws.specs.History.{is_closed, sent}
 use Rattle.upi_laws.specs.Places.{has_id, opened, opening, opens, decision, decides, debit, credit, reversal, ends, due_debit, due_credit, cause_by, reverses}
 use Rattle.upi_laws.specs.Outcomes.{outcome_by, outcome_of}
 use Rattle.upi_laws.specs.Postings.{answer, arrives, reversal_due_by, share, post_debit, post_credit, post_reversal}
-use Rattle.upi_laws.specs.Dues.{acknowledged, acknowledges, orders, confirms, last_sent, due_confirm, due_leg, due_by, due}
-use Rattle.upi_laws.specs.Replies.{order_answer}
+use Rattle.upi_laws.specs.Dues.{acknowledged, acknowledges, orders, confirms, last_sent, due_confirm, due_leg, due_by, due, passed}
+use Rattle.upi_laws.specs.Replies.{ok, no, reply_pay, reply_auth, reply_check, reply_confirmed, late_answer, reply_order, reply_late, order_answer}
 use Rattle.upi_replay.specs.declared.rows.Row.{Row}
 use Rattle.upi_replay.specs.declared.found.Found.{Found}
 
@@ -184,3 +192,39 @@ pub record Says (S : List SetupLine) (h : List Entry) (t : List ℕ) (r : Option
   pub outcome : outcome_in r ≡ outcome_of S t h
   pub order : (l : Leg) → order_answer_in S (rows_of S h) r l ≡ order_answer S h t l
   pub due : is_closed h ≡ false → due_in h r ≡ due S t h
+
+-- the replies, by the rows
+abbrev pub reply_heard_in : List SetupLine → List Row → List ℕ → Said → ℕ → Reply
+reply_heard_in S rows p (said.Pay r) now = reply_pay S (openings rows) p r (opening_in (row_at rows r.txn))
+reply_heard_in S rows p (said.Auth a) now = reply_auth S p a now (decision_in (row_at rows a.txn)) (opening_in (row_at rows a.txn))
+reply_heard_in S rows p (said.Check t) now = reply_check p (outcome_in (row_at rows t)) (opening_in (row_at rows t))
+reply_heard_in S rows p (said.Confirmed t) now = reply_confirmed p (outcome_in (row_at rows t)) (opening_in (row_at rows t))
+reply_heard_in S rows p said.Foreign now = no code.NotYours
+
+abbrev pub reply_answered_in : Option Row → Leg → Reply
+reply_answered_in r leg.Debit = late_answer code.DebitLate (debit_in r)
+reply_answered_in r leg.Credit = late_answer code.CreditLate (credit_in r)
+reply_answered_in r leg.Reversal = ok
+
+abbrev pub reply_in : List SetupLine → List Row → List Entry → Event → ℕ → Reply
+reply_in S rows h (event.Heard p what) now = reply_heard_in S rows p what now
+reply_in S rows h event.Unread now = no code.Format
+reply_in S rows h (event.Ordered t l) now = reply_order (order_answer_in S rows (row_at rows t) l)
+reply_in S rows h (event.Answered t l a) now = reply_answered_in (row_at rows t) l
+reply_in S rows h event.Told now = reply.Told
+reply_in S rows h event.Lost now = reply.Lost
+reply_in S rows h (event.Late t) now = reply_late (passed now (due_in h (row_at rows t)))
+reply_in S rows h event.Close now = reply.Closed
+
+abbrev pub reply_closed_said_in : List Row → List ℕ → Said → Reply
+reply_closed_said_in rows p (said.Check t) = reply_check p (outcome_in (row_at rows t)) (opening_in (row_at rows t))
+reply_closed_said_in rows p _ = no code.Closed
+
+abbrev pub reply_closed_on_in : List Row → Event → Reply
+reply_closed_on_in rows (event.Heard p what) = reply_closed_said_in rows p what
+reply_closed_on_in rows event.Unread = no code.Format
+reply_closed_on_in rows _ = no code.Closed
+
+abbrev pub reply_closed_in : List Row → Call → Event → Reply
+reply_closed_in rows (call.Hear p what) e = reply_closed_on_in rows e
+reply_closed_in rows _ e = no code.Closed

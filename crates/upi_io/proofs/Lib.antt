@@ -1,0 +1,5 @@
+pub mod Raw
+pub mod Search
+pub mod Ahead
+pub mod First
+pub mod Laws

@@ -1,0 +1,21 @@
+//! Sources and sinks of bytes, the lines of a source, and the words and the end of a top call.
+#![tactic(auto)]
+
+pub mod lines;
+pub mod memory;
+pub mod sink;
+pub mod source;
+pub mod standard;
+pub mod status;
+pub mod words;
+
+pub use lines::{Line, LineFault, LineReader, MAX_LINE, MAX_LINES};
+pub use memory::{MemSink, MemSource};
+pub use sink::{Sink, WriteAnswer, Wrote, write_all};
+pub use source::{ReadAnswer, Source};
+pub use standard::{Reading, Writing};
+pub use status::Status;
+pub use words::Words;
+
+#[cfg(test)]
+mod tests;

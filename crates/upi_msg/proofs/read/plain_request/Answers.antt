@@ -1,0 +1,21 @@
+use Rattle.std.proofs.Common.{◌≡◌, ◌++◌, List, ℕ, ap, sym, ◌∙◌}
+use Rattle.serde_json.specs.View.{view}
+use Rattle.upi_base.specs.declared.message.Message.TheVariants as message
+use Rattle.upi_msg.specs.Tree.{message_text}
+use Rattle.upi_msg.proofs.Again.{no_tree, no_members, no_match, differs}
+use Rattle.upi_msg.proofs.read.plain_request.Goals as goal
+
+pub returns-in_default : goal.returns-in_default
+returns-in_default c = no_tree c.args.text.now (rw c.in_default.is at c.in_ok-value.ensures)
+
+pub returns-in_default-plain_of : goal.returns-in_default-plain_of
+returns-in_default-plain_of c =
+    let read = rw c.in-Some.is at c.in_ok-value.ensures in
+    no_members c.args.text.now (view c.in-Some.value) read.1 c.in_default-plain_of.ensures.read
+
+pub returns : goal.returns
+returns c =
+    let read = rw c.in-Some.is at c.in_ok-value.ensures in
+    let again : List ℕ = message_text (message.Pay c.in-Some-plain_of.request) in
+    let written = c.as_slice.ensures.value ∙ c.in_ok-push_pay.ensures ∙ ap (λ (l : List ℕ). l ++ again) c.new-written.ensures.items in
+    no_match c.args.text.now (view c.in-Some.value) c.in-Some-plain_of.request read.1 c.in-Some-plain_of.ensures.read (differs c.as_slice.result.now c.args.text.now again written c.if-eq.ensures)

@@ -1,0 +1,9 @@
+use Rattle.std.proofs.Common.{refl}
+use Rattle.upi_msg.proofs.Pieces.{grows}
+use Rattle.upi_msg.proofs.Parts.{payer_parts, payer_text}
+use Rattle.upi_msg.proofs.write.push_payer.Goals as goal
+
+pub returns : goal.returns
+returns c =
+    grows c.args.out.now.items (payer_parts c.args.request.now) _ c.push-2.new.self.items (payer_text c.args.request.now)
+    (_, c.in_ok-push.ensures.items, (_, c.in_ok-push_ac_front.ensures, (_, c.in_ok-extend_from_slice.ensures.items, (_, c.in_ok-push_amount.ensures, (_, c.in_ok-push_text.ensures, (_, c.in_ok-push-2.ensures.items, refl))))))

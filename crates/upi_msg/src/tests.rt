@@ -1,0 +1,142 @@
+use super::*;
+use std::alloc::Global;
+use std::test::Fail;
+use upi_base::{
+    AcNum, AccountRef, Addr, Api, AuthResp, BankCode, Boxed, Chk, ConfResp, Head, Kind, Message,
+    Minutes, Moment, MsgId, Note, OrgId, Paise, PayReq, TxnId,
+};
+
+const P1: &[u8] = b"{\"ReqPay\":{\"Head\":{\"msgId\":\"A1\",\"orgId\":\"alpha\",\"ts\":\"2024-01-01T05:30:00+05:30\",\"ver\":\"1.0\"},\"Payees\":{\"Payee\":[{\"addr\":\"bob@beta\"}]},\"Payer\":{\"Amount\":{\"curr\":\"INR\",\"value\":\"30.00\"},\"addr\":\"ann@alpha\"},\"Txn\":{\"id\":\"T1\",\"type\":\"PAY\"}}}";
+
+fn head(name: &[u8], org: &[u8]) -> Option<Head> {
+    Some(Head {
+        msg_id: MsgId::read(name)?,
+        org: OrgId::read(org)?,
+        ts: Moment::of(1_704_067_200)?,
+    })
+}
+
+fn account(bank: &[u8], num: &[u8]) -> Option<AccountRef> {
+    Some(AccountRef {
+        bank: BankCode::read(bank)?,
+        num: AcNum::read(num)?,
+    })
+}
+
+fn p1() -> Option<PayReq> {
+    Some(PayReq {
+        head: head(b"A1", b"alpha")?,
+        kind: Kind::Pay,
+        txn: TxnId::read(b"T1")?,
+        note: None,
+        expire: None,
+        payer: Addr::read(b"ann@alpha")?,
+        payee: Addr::read(b"bob@beta")?,
+        amount: Paise::of(3_000)?,
+        payer_ac: None,
+        payee_ac: None,
+    })
+}
+
+fn collect() -> Option<PayReq> {
+    Some(PayReq {
+        head: head(b"B1", b"beta")?,
+        kind: Kind::Collect,
+        txn: TxnId::read(b"C1")?,
+        note: Note::read(b"for \"tea\" \\ cake"),
+        expire: Minutes::of(1),
+        payer: Addr::read(b"ann@alpha")?,
+        payee: Addr::read(b"bob@beta")?,
+        amount: Paise::of(3_000)?,
+        payer_ac: account(b"AAAA", b"1"),
+        payee_ac: account(b"BBBB", b"2"),
+    })
+}
+
+fn refusal() -> Option<AuthResp> {
+    Some(AuthResp {
+        head: head(b"A2", b"alpha")?,
+        req_msg: MsgId::read(b"M1")?,
+        txn: TxnId::read(b"C1")?,
+        yes: false,
+        amount: Paise::of(3_000)?,
+        payer_ac: None,
+        payee_ac: account(b"BBBB", b"2"),
+    })
+}
+
+fn is_written(alloc: Global, message: &Message, expected: &[u8]) -> Result<bool, Fail> {
+    let mut out = Vec::new(alloc);
+    text(alloc, message, &mut out).ok().ok_or("memory")?;
+    Ok(out.as_slice() == expected)
+}
+
+#[test]
+fn payments(rt: HostRuntime) -> Result<(), Fail> {
+    let alloc = rt.alloc();
+    let plain = Boxed::new(alloc, p1().ok_or("a payment")?).ok().ok_or("memory")?;
+    assert!(rt; is_written(alloc, &Message::Pay(plain), P1)?);
+    let full = Boxed::new(alloc, collect().ok_or("a payment")?).ok().ok_or("memory")?;
+    assert!(rt; is_written(alloc, &Message::Pay(full), b"{\"ReqPay\":{\"Head\":{\"msgId\":\"B1\",\"orgId\":\"beta\",\"ts\":\"2024-01-01T05:30:00+05:30\",\"ver\":\"1.0\"},\"Payees\":{\"Payee\":[{\"Ac\":{\"Detail\":[{\"name\":\"IFSC\",\"value\":\"BBBB0000000\"},{\"name\":\"ACNUM\",\"value\":\"2\"}],\"addrType\":\"ACCOUNT\"},\"addr\":\"bob@beta\"}]},\"Payer\":{\"Ac\":{\"Detail\":[{\"name\":\"IFSC\",\"value\":\"AAAA0000000\"},{\"name\":\"ACNUM\",\"value\":\"1\"}],\"addrType\":\"ACCOUNT\"},\"Amount\":{\"curr\":\"INR\",\"value\":\"30.00\"},\"addr\":\"ann@alpha\"},\"Txn\":{\"Rules\":{\"Rule\":[{\"name\":\"EXPIREAFTER\",\"value\":\"1\"}]},\"id\":\"C1\",\"note\":\"for \\\"tea\\\" \\\\ cake\",\"type\":\"COLLECT\"}}}")?);
+    Ok(())
+}
+
+#[test]
+fn answers(rt: HostRuntime) -> Result<(), Fail> {
+    let alloc = rt.alloc();
+    let no = Boxed::new(alloc, refusal().ok_or("an answer")?).ok().ok_or("memory")?;
+    assert!(rt; is_written(alloc, &Message::AuthAnswer(no), b"{\"RespAuthDetails\":{\"Head\":{\"msgId\":\"A2\",\"orgId\":\"alpha\",\"ts\":\"2024-01-01T05:30:00+05:30\",\"ver\":\"1.0\"},\"Payees\":{\"Payee\":[{\"Ac\":{\"Detail\":[{\"name\":\"IFSC\",\"value\":\"BBBB0000000\"},{\"name\":\"ACNUM\",\"value\":\"2\"}],\"addrType\":\"ACCOUNT\"}}]},\"Payer\":{\"Amount\":{\"curr\":\"INR\",\"value\":\"30.00\"}},\"Resp\":{\"reqMsgId\":\"M1\",\"result\":\"FAILURE\"},\"Txn\":{\"id\":\"C1\"}}}")?);
+    let check = Chk {
+        head: head(b"A3", b"alpha").ok_or("a head")?,
+        txn: TxnId::read(b"T1").ok_or("an id")?,
+    };
+    assert!(rt; is_written(alloc, &Message::Check(check), b"{\"ReqChkTxn\":{\"Head\":{\"msgId\":\"A3\",\"orgId\":\"alpha\",\"ts\":\"2024-01-01T05:30:00+05:30\",\"ver\":\"1.0\"},\"Txn\":{\"id\":\"T1\"}}}")?);
+    let confirmed = ConfResp {
+        head: head(b"B2", b"beta").ok_or("a head")?,
+        req_msg: MsgId::read(b"M1").ok_or("an id")?,
+        txn: TxnId::read(b"T1").ok_or("an id")?,
+    };
+    let confirmed = Boxed::new(alloc, confirmed).ok().ok_or("memory")?;
+    assert!(rt; is_written(alloc, &Message::Confirmed(confirmed), b"{\"RespTxnConfirmation\":{\"Head\":{\"msgId\":\"B2\",\"orgId\":\"beta\",\"ts\":\"2024-01-01T05:30:00+05:30\",\"ver\":\"1.0\"},\"Resp\":{\"reqMsgId\":\"M1\"},\"Txn\":{\"id\":\"T1\"}}}")?);
+    let foreign = Message::Foreign {
+        api: Api::ReqTxnConfirmation,
+        head: head(b"A9", b"alpha").ok_or("a head")?,
+    };
+    assert!(rt; is_written(alloc, &foreign, b"{\"ReqTxnConfirmation\":{\"Head\":{\"msgId\":\"A9\",\"orgId\":\"alpha\",\"ts\":\"2024-01-01T05:30:00+05:30\",\"ver\":\"1.0\"}}}")?);
+    Ok(())
+}
+
+fn is_plain(alloc: Global, text: &[u8]) -> Result<bool, Fail> {
+    Ok(read_plain(alloc, text).ok().ok_or("memory")?.is_some())
+}
+
+#[test]
+fn plain_payment(rt: HostRuntime) -> Result<(), Fail> {
+    let alloc = rt.alloc();
+    let found = read_plain(alloc, P1).ok().ok_or("memory")?;
+    let expected = Boxed::new(alloc, p1().ok_or("a payment")?).ok().ok_or("memory")?;
+    assert!(rt; found == Some(Message::Pay(expected)));
+    Ok(())
+}
+
+#[test]
+fn other_payments(rt: HostRuntime) -> Result<(), Fail> {
+    let alloc = rt.alloc();
+    // One decimal too few, one too many.
+    assert!(rt; !is_plain(alloc, b"{\"ReqPay\":{\"Head\":{\"msgId\":\"A1\",\"orgId\":\"alpha\",\"ts\":\"2024-01-01T05:30:00+05:30\",\"ver\":\"1.0\"},\"Payees\":{\"Payee\":[{\"addr\":\"bob@beta\"}]},\"Payer\":{\"Amount\":{\"curr\":\"INR\",\"value\":\"30\"},\"addr\":\"ann@alpha\"},\"Txn\":{\"id\":\"T1\",\"type\":\"PAY\"}}}")?);
+    assert!(rt; !is_plain(alloc, b"{\"ReqPay\":{\"Head\":{\"msgId\":\"A1\",\"orgId\":\"alpha\",\"ts\":\"2024-01-01T05:30:00+05:30\",\"ver\":\"1.0\"},\"Payees\":{\"Payee\":[{\"addr\":\"bob@beta\"}]},\"Payer\":{\"Amount\":{\"curr\":\"INR\",\"value\":\"1.005\"},\"addr\":\"ann@alpha\"},\"Txn\":{\"id\":\"T1\",\"type\":\"PAY\"}}}")?);
+    // A space more.
+    assert!(rt; !is_plain(alloc, b"{\"ReqPay\":{\"Head\":{\"msgId\":\"A1\",\"orgId\":\"alpha\",\"ts\":\"2024-01-01T05:30:00+05:30\",\"ver\":\"1.0\"},\"Payees\":{\"Payee\":[{\"addr\":\"bob@beta\"}]},\"Payer\":{\"Amount\":{\"curr\":\"INR\",\"value\":\"30.00\"},\"addr\":\"ann@alpha\"},\"Txn\":{\"id\":\"T1\",\"type\":\"PAY\"}}} ")?);
+    // Members in another order.
+    assert!(rt; !is_plain(alloc, b"{\"ReqPay\":{\"Head\":{\"msgId\":\"A1\",\"orgId\":\"alpha\",\"ts\":\"2024-01-01T05:30:00+05:30\",\"ver\":\"1.0\"},\"Payees\":{\"Payee\":[{\"addr\":\"bob@beta\"}]},\"Payer\":{\"Amount\":{\"curr\":\"INR\",\"value\":\"30.00\"},\"addr\":\"ann@alpha\"},\"Txn\":{\"type\":\"PAY\",\"id\":\"T1\"}}}")?);
+    // A note.
+    assert!(rt; !is_plain(alloc, b"{\"ReqPay\":{\"Head\":{\"msgId\":\"A1\",\"orgId\":\"alpha\",\"ts\":\"2024-01-01T05:30:00+05:30\",\"ver\":\"1.0\"},\"Payees\":{\"Payee\":[{\"addr\":\"bob@beta\"}]},\"Payer\":{\"Amount\":{\"curr\":\"INR\",\"value\":\"30.00\"},\"addr\":\"ann@alpha\"},\"Txn\":{\"id\":\"T1\",\"note\":\"tea\",\"type\":\"PAY\"}}}")?);
+    // A COLLECT, and no type.
+    assert!(rt; !is_plain(alloc, b"{\"ReqPay\":{\"Head\":{\"msgId\":\"A1\",\"orgId\":\"alpha\",\"ts\":\"2024-01-01T05:30:00+05:30\",\"ver\":\"1.0\"},\"Payees\":{\"Payee\":[{\"addr\":\"bob@beta\"}]},\"Payer\":{\"Amount\":{\"curr\":\"INR\",\"value\":\"30.00\"},\"addr\":\"ann@alpha\"},\"Txn\":{\"id\":\"T1\",\"type\":\"COLLECT\"}}}")?);
+    assert!(rt; !is_plain(alloc, b"{\"ReqPay\":{\"Head\":{\"msgId\":\"A1\",\"orgId\":\"alpha\",\"ts\":\"2024-01-01T05:30:00+05:30\",\"ver\":\"1.0\"},\"Payees\":{\"Payee\":[{\"addr\":\"bob@beta\"}]},\"Payer\":{\"Amount\":{\"curr\":\"INR\",\"value\":\"30.00\"},\"addr\":\"ann@alpha\"},\"Txn\":{\"id\":\"T1\"}}}")?);
+    // The payee's amount.
+    assert!(rt; !is_plain(alloc, b"{\"ReqPay\":{\"Head\":{\"msgId\":\"A1\",\"orgId\":\"alpha\",\"ts\":\"2024-01-01T05:30:00+05:30\",\"ver\":\"1.0\"},\"Payees\":{\"Payee\":[{\"Amount\":{\"curr\":\"INR\",\"value\":\"30.00\"},\"addr\":\"bob@beta\"}]},\"Payer\":{\"Amount\":{\"curr\":\"INR\",\"value\":\"30.00\"},\"addr\":\"ann@alpha\"},\"Txn\":{\"id\":\"T1\",\"type\":\"PAY\"}}}")?);
+    // No UTF-8.
+    assert!(rt; !is_plain(alloc, b"{\"ReqPay\":\"\xff\"}")?);
+    Ok(())
+}
