@@ -14,3 +14,4 @@ pub mod Approved
 pub mod Setups
 pub mod Sums
 pub mod Ints
+pub mod Conserved
