@@ -48,11 +48,12 @@ IsNamedOnce S a = (addr : List ℕ) (b : Account) → account_at S addr ≡ Some
 
 named_once : (S : List SetupLine) (xs : List Account) → is_setup S ≡ true → AllByRecursion (λ (a : Account). account_named S a.ac ≡ Some a) xs → AllByRecursion (IsNamedOnce S) xs
 named_once S [] setup p = tt
-named_once S (a ∷ xs) setup p =
-    (λ addr b at same. option_and_then_some (λ (l : Listing). account_named S l.ac) (listing_at S addr) b at (λ l _ named.
-    let own = named_all (λ (x : Account). account_named S x.ac ≡ Some x) S l.ac b (accounts_found S setup) named in
-    some_same b a (sym own.1 ∙ (ap (account_named S) (same_account_is b.ac a.ac same) ∙ p.0))),
-    named_once S xs setup p.1)
+named_once S (a ∷ xs) setup p = (
+  λ addr b at same. option_and_then_some (λ (l : Listing). account_named S l.ac) (listing_at S addr) b at (λ l _ named.
+      let own = named_all (λ (x : Account). account_named S x.ac ≡ Some x) S l.ac b (accounts_found S setup) named in
+      some_same b a (sym own.1 ∙ (ap (account_named S) (same_account_is b.ac a.ac same) ∙ p.0))),
+  named_once S xs setup p.1,
+)
 
 pub accounts_named_once : (S : List SetupLine) → is_setup S ≡ true → AllByRecursion (IsNamedOnce S) (accounts S)
 accounts_named_once S setup = named_once S (accounts S) setup (accounts_found S setup)

@@ -15,3 +15,4 @@ pub mod Setups
 pub mod Sums
 pub mod Ints
 pub mod Conserved
+pub mod Settled
