@@ -306,8 +306,8 @@ address_account S addr k e at = option_and_then_some (λ (l : Listing). account_
     let bank = named_all (λ (a : Account). has_bank S a.ac.bank ≡ true) S l.ac k (accounts_banked S e) named in
     record {
       once = count_same (λ (a : Account). same_account k.ac a.ac) (λ (a : Account). same_account a.ac k.ac) (λ a. account_swap k.ac a.ac) (accounts S)
-      ∙ (accounts_once S e k.ac ∙ ap (λ (o : Option Account). tally (is_some o)) own.1);
+          ∙ (accounts_once S e k.ac ∙ ap (λ (o : Option Account). tally (is_some o)) own.1);
       alone = named_alone S k (accounts S) own.1 (accounts_found S e);
       banked = count_same (λ (b : List ℕ). bytes_eq k.ac.bank b) (λ (b : List ℕ). bytes_eq b k.ac.bank) (λ b. bytes_swap k.ac.bank b) (banks S)
-      ∙ (banks_once S e k.ac.bank ∙ ap (λ (b : Bool). tally b) bank.1);
+          ∙ (banks_once S e k.ac.bank ∙ ap (λ (b : Bool). tally b) bank.1);
     })
