@@ -1,9 +1,5 @@
 -- Words on lists that every layer uses.
-<<<<<<< HEAD
-use Rattle.std.specs.Prelude.{Bool, cond, List, [], ◌∷◌, ◌++◌, Option, Some, None}
-=======
 use Rattle.std.specs.Prelude.{ℕ, suc, Bool, cond, if◌then◌else◌, List, [], ◌∷◌, ◌++◌, Option, Some, None}
->>>>>>> baec325e412454388fb4a44887ff7ac82b4f4d57
 use Rattle.std.specs.Option.{option_or}
 
 -- the value, where the test says yes
