@@ -108,60 +108,108 @@ address_utf8 s e = utf8_clear s (clear_address 71 s e)
 
 head_utf8 : (h : Head) → IsTypedHead h → IsUtf8 (compact_text (head_tree h))
 head_utf8 h t =
-    subst IsUtf8 (head_text h) (glue_utf8 (head_parts h)
-    (behind (codes "{\"msgId\":") h.msg_id refl (name_utf8 35 h.msg_id t.0),
-    (behind (codes ",\"orgId\":") h.org refl (name_utf8 20 h.org t.1),
-    (IsUtf8-are_ascii (codes ",\"ts\":") refl,
-    (IsUtf8-quoted (moment_text h.ts) (utf8_clear (moment_text h.ts) (clear_moment h.ts t.2)),
-    (IsUtf8-are_ascii (codes ",\"ver\":\"1.0\"}") refl, tt))))))
+    subst IsUtf8 (head_text h) (glue_utf8 (head_parts h) (
+      behind (codes "{\"msgId\":") h.msg_id refl (name_utf8 35 h.msg_id t.0),
+      (
+        behind (codes ",\"orgId\":") h.org refl (name_utf8 20 h.org t.1),
+        (
+          IsUtf8-are_ascii (codes ",\"ts\":") refl,
+          (
+            IsUtf8-quoted (moment_text h.ts) (utf8_clear (moment_text h.ts) (clear_moment h.ts t.2)),
+            (IsUtf8-are_ascii (codes ",\"ver\":\"1.0\"}") refl, tt),
+          ),
+        ),
+      ),
+    ))
 
 amount_utf8 : (v : ℕ) → IsUtf8 (compact_text (amount_tree v))
 amount_utf8 v =
-    subst IsUtf8 (amount_text v) (glue_utf8 (amount_parts v)
-    (IsUtf8-are_ascii (codes "{\"curr\":\"INR\",\"value\":") refl,
-    (IsUtf8-quoted (paise_text v) (utf8_clear (paise_text v) (clear_paise v)),
-    (IsUtf8-are_ascii (codes "}") refl, tt))))
+    subst IsUtf8 (amount_text v) (glue_utf8 (amount_parts v) (
+      IsUtf8-are_ascii (codes "{\"curr\":\"INR\",\"value\":") refl,
+      (
+        IsUtf8-quoted (paise_text v) (utf8_clear (paise_text v) (clear_paise v)),
+        (IsUtf8-are_ascii (codes "}") refl, tt),
+      ),
+    ))
 
 payer_utf8 : (r : PayReq) → IsTyped r → IsUtf8 (compact_text (payer_tree (form_of r)))
 payer_utf8 r t =
-    subst IsUtf8 (payer_text (form_of r)) (glue_utf8 (payer_parts (form_of r))
-    (IsUtf8-are_ascii (codes "{") refl,
-    (IsUtf8-nil,
-    (IsUtf8-are_ascii (codes "\"Amount\":") refl,
-    (amount_utf8 r.amount,
-    (behind (codes ",\"addr\":") r.payer refl (address_utf8 r.payer t.2),
-    (IsUtf8-are_ascii (codes "}") refl, tt)))))))
+    subst IsUtf8 (payer_text (form_of r)) (glue_utf8 (payer_parts (form_of r)) (
+      IsUtf8-are_ascii (codes "{") refl,
+      (
+        IsUtf8-nil,
+        (
+          IsUtf8-are_ascii (codes "\"Amount\":") refl,
+          (
+            amount_utf8 r.amount,
+            (
+              behind (codes ",\"addr\":") r.payer refl (address_utf8 r.payer t.2),
+              (IsUtf8-are_ascii (codes "}") refl, tt),
+            ),
+          ),
+        ),
+      ),
+    ))
 
 payee_utf8 : (r : PayReq) → IsTyped r → IsUtf8 (compact_text (payee_tree (form_of r)))
 payee_utf8 r t =
-    subst IsUtf8 (payee_text (form_of r)) (glue_utf8 (payee_parts (form_of r))
-    (IsUtf8-are_ascii (codes "{") refl,
-    (IsUtf8-nil,
-    (behind (codes "\"addr\":") r.payee refl (address_utf8 r.payee t.3),
-    (IsUtf8-are_ascii (codes "}") refl, tt)))))
+    subst IsUtf8 (payee_text (form_of r)) (glue_utf8 (payee_parts (form_of r)) (
+      IsUtf8-are_ascii (codes "{") refl,
+      (
+        IsUtf8-nil,
+        (
+          behind (codes "\"addr\":") r.payee refl (address_utf8 r.payee t.3),
+          (IsUtf8-are_ascii (codes "}") refl, tt),
+        ),
+      ),
+    ))
 
 payment_utf8 : (r : PayReq) → IsTyped r → IsUtf8 (compact_text (payment_tree (form_of r)))
 payment_utf8 r t =
-    subst IsUtf8 (payment_text (form_of r)) (glue_utf8 (payment_parts (form_of r))
-    (IsUtf8-are_ascii (codes "{") refl,
-    (IsUtf8-nil,
-    (behind (codes "\"id\":") r.txn refl (name_utf8 35 r.txn t.1),
-    (IsUtf8-nil,
-    (behind (codes ",\"type\":") (codes "PAY") refl (IsUtf8-are_ascii (codes "PAY") refl),
-    (IsUtf8-are_ascii (codes "}") refl, tt)))))))
+    subst IsUtf8 (payment_text (form_of r)) (glue_utf8 (payment_parts (form_of r)) (
+      IsUtf8-are_ascii (codes "{") refl,
+      (
+        IsUtf8-nil,
+        (
+          behind (codes "\"id\":") r.txn refl (name_utf8 35 r.txn t.1),
+          (
+            IsUtf8-nil,
+            (
+              behind (codes ",\"type\":") (codes "PAY") refl (IsUtf8-are_ascii (codes "PAY") refl),
+              (IsUtf8-are_ascii (codes "}") refl, tt),
+            ),
+          ),
+        ),
+      ),
+    ))
 
 form_utf8 : (r : PayReq) → IsTyped r → IsUtf8 (message_text (message.Pay (form_of r)))
 form_utf8 r t =
-    subst IsUtf8 (pay_text (form_of r)) (glue_utf8 (pay_parts (form_of r))
-    (IsUtf8-are_ascii (codes "{\"ReqPay\":{\"Head\":") refl,
-    (head_utf8 r.head t.0,
-    (IsUtf8-are_ascii (codes ",\"Payees\":{\"Payee\":[") refl,
-    (payee_utf8 r t,
-    (IsUtf8-are_ascii (codes "]},\"Payer\":") refl,
-    (payer_utf8 r t,
-    (IsUtf8-are_ascii (codes ",\"Txn\":") refl,
-    (payment_utf8 r t,
-    (IsUtf8-are_ascii (codes "}}") refl, tt))))))))))
+    subst IsUtf8 (pay_text (form_of r)) (glue_utf8 (pay_parts (form_of r)) (
+      IsUtf8-are_ascii (codes "{\"ReqPay\":{\"Head\":") refl,
+      (
+        head_utf8 r.head t.0,
+        (
+          IsUtf8-are_ascii (codes ",\"Payees\":{\"Payee\":[") refl,
+          (
+            payee_utf8 r t,
+            (
+              IsUtf8-are_ascii (codes "]},\"Payer\":") refl,
+              (
+                payer_utf8 r t,
+                (
+                  IsUtf8-are_ascii (codes ",\"Txn\":") refl,
+                  (
+                    payment_utf8 r t,
+                    (IsUtf8-are_ascii (codes "}}") refl, tt),
+                  ),
+                ),
+              ),
+            ),
+          ),
+        ),
+      ),
+    ))
 
 -- ---- of any plain payment
 

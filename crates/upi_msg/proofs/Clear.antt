@@ -85,18 +85,18 @@ clear_paise v = clear-append (decimal (v / 100)) (46 ∷ pair_text (v % 100)) (c
 clear_date : (c : Civil) → c.year < 10_000 → c.month < 100 → c.day < 100 → are_clear (date_text c) ≡ true
 clear_date c y m d =
     clear-append (pair_text (c.year / 100) ++ pair_text (c.year % 100) ++ 45 ∷ pair_text c.month) (45 ∷ pair_text c.day)
-      (clear-append (pair_text (c.year / 100) ++ pair_text (c.year % 100)) (45 ∷ pair_text c.month)
-        (clear-append (pair_text (c.year / 100)) (pair_text (c.year % 100)) (clear_pair (c.year / 100) (omega arith)) (clear_pair (c.year % 100) (mod-lt c.year (omega arith))))
-        (clear_pair c.month m))
-      (clear_pair c.day d)
+    (clear-append (pair_text (c.year / 100) ++ pair_text (c.year % 100)) (45 ∷ pair_text c.month)
+    (clear-append (pair_text (c.year / 100)) (pair_text (c.year % 100)) (clear_pair (c.year / 100) (omega arith)) (clear_pair (c.year % 100) (mod-lt c.year (omega arith))))
+    (clear_pair c.month m))
+    (clear_pair c.day d)
 
 clear_clock : (s : ℕ) → s < 86_400 → are_clear (clock_text s) ≡ true
 clear_clock s lt =
     let minute : s / 60 % 60 < 60 = mod-lt (s / 60) (omega arith) in
     let second : s % 60 < 60 = mod-lt s (omega arith) in
     clear-append (pair_text (s / 3600) ++ 58 ∷ pair_text (s / 60 % 60)) (58 ∷ pair_text (s % 60))
-      (clear-append (pair_text (s / 3600)) (58 ∷ pair_text (s / 60 % 60)) (clear_pair (s / 3600) (omega arith)) (clear_pair (s / 60 % 60) (omega (arith, minute))))
-      (clear_pair (s % 60) (omega (arith, second)))
+    (clear-append (pair_text (s / 3600)) (58 ∷ pair_text (s / 60 % 60)) (clear_pair (s / 3600) (omega arith)) (clear_pair (s / 60 % 60) (omega (arith, minute))))
+    (clear_pair (s % 60) (omega (arith, second)))
 
 pub clear_moment : (m : ℕ) → m ≤ max_moment → are_clear (moment_text m) ≡ true
 clear_moment m le =
@@ -105,10 +105,10 @@ clear_moment m le =
     let year = year_small day (civil_from day).year (civil_from day).month (civil_from day).day nth (omega arith) in
     let days = days_in_month_bounds (pos (civil_from day).year) (civil_from day).month in
     clear-append (date_text (civil_from day) ++ 84 ∷ clock_text (local_second m % 86_400)) (codes "+05:30")
-      (clear-append (date_text (civil_from day)) (84 ∷ clock_text (local_second m % 86_400))
-        (clear_date (civil_from day) (omega (arith, year)) (omega (arith, nth.most)) (omega (arith, nth.last, days)))
-        (clear_clock (local_second m % 86_400) (mod-lt (local_second m) (omega arith))))
-      refl
+    (clear-append (date_text (civil_from day)) (84 ∷ clock_text (local_second m % 86_400))
+    (clear_date (civil_from day) (omega (arith, year)) (omega (arith, nth.most)) (omega (arith, nth.last, days)))
+    (clear_clock (local_second m % 86_400) (mod-lt (local_second m) (omega arith))))
+    refl
 
 -- ---- names
 

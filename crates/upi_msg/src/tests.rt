@@ -6,7 +6,24 @@ use upi_base::{
     Minutes, Moment, MsgId, Note, OrgId, Paise, PayReq, TxnId,
 };
 
-const P1: &[u8] = b"{\"ReqPay\":{\"Head\":{\"msgId\":\"A1\",\"orgId\":\"alpha\",\"ts\":\"2024-01-01T05:30:00+05:30\",\"ver\":\"1.0\"},\"Payees\":{\"Payee\":[{\"addr\":\"bob@beta\"}]},\"Payer\":{\"Amount\":{\"curr\":\"INR\",\"value\":\"30.00\"},\"addr\":\"ann@alpha\"},\"Txn\":{\"id\":\"T1\",\"type\":\"PAY\"}}}";
+// A payment of 30.00 by ann to bob, member by member.
+const HEAD: &[u8] =
+    b"{\"ReqPay\":{\"Head\":{\"msgId\":\"A1\",\"orgId\":\"alpha\",\"ts\":\"2024-01-01T05:30:00+05:30\",\"ver\":\"1.0\"},";
+
+const PAYEES: &[u8] = b"\"Payees\":{\"Payee\":[{\"addr\":\"bob@beta\"}]},";
+
+const PAYER: &[u8] =
+    b"\"Payer\":{\"Amount\":{\"curr\":\"INR\",\"value\":\"30.00\"},\"addr\":\"ann@alpha\"},";
+
+const TXN: &[u8] = b"\"Txn\":{\"id\":\"T1\",\"type\":\"PAY\"}}}";
+
+fn joined(alloc: Global, parts: &[&[u8]]) -> Result<Vec<u8>, Fail> {
+    let mut text = Vec::new(alloc);
+    for part in parts {
+        text.extend_from_slice(part)?;
+    }
+    Ok(text)
+}
 
 fn head(name: &[u8], org: &[u8]) -> Option<Head> {
     Some(Head {
@@ -74,47 +91,93 @@ fn is_written(alloc: Global, message: &Message, expected: &[u8]) -> Result<bool,
 #[test]
 fn payments(rt: HostRuntime) -> Result<(), Fail> {
     let alloc = rt.alloc();
-    let plain = Boxed::new(alloc, p1().ok_or("a payment")?).ok().ok_or("memory")?;
-    assert!(rt; is_written(alloc, &Message::Pay(plain), P1)?);
-    let full = Boxed::new(alloc, collect().ok_or("a payment")?).ok().ok_or("memory")?;
-    assert!(rt; is_written(alloc, &Message::Pay(full), b"{\"ReqPay\":{\"Head\":{\"msgId\":\"B1\",\"orgId\":\"beta\",\"ts\":\"2024-01-01T05:30:00+05:30\",\"ver\":\"1.0\"},\"Payees\":{\"Payee\":[{\"Ac\":{\"Detail\":[{\"name\":\"IFSC\",\"value\":\"BBBB0000000\"},{\"name\":\"ACNUM\",\"value\":\"2\"}],\"addrType\":\"ACCOUNT\"},\"addr\":\"bob@beta\"}]},\"Payer\":{\"Ac\":{\"Detail\":[{\"name\":\"IFSC\",\"value\":\"AAAA0000000\"},{\"name\":\"ACNUM\",\"value\":\"1\"}],\"addrType\":\"ACCOUNT\"},\"Amount\":{\"curr\":\"INR\",\"value\":\"30.00\"},\"addr\":\"ann@alpha\"},\"Txn\":{\"Rules\":{\"Rule\":[{\"name\":\"EXPIREAFTER\",\"value\":\"1\"}]},\"id\":\"C1\",\"note\":\"for \\\"tea\\\" \\\\ cake\",\"type\":\"COLLECT\"}}}")?);
+    let plain = Boxed::new(alloc, p1().ok_or("a payment")?)
+        .ok()
+        .ok_or("memory")?;
+    assert!(rt;
+        is_written(
+            alloc,
+            &Message::Pay(plain),
+            &joined(alloc, &[HEAD, PAYEES, PAYER, TXN])?
+        )?
+    );
+    let full = Boxed::new(alloc, collect().ok_or("a payment")?)
+        .ok()
+        .ok_or("memory")?;
+    assert!(rt;
+        is_written(
+            alloc,
+            &Message::Pay(full),
+            b"{\"ReqPay\":{\"Head\":{\"msgId\":\"B1\",\"orgId\":\"beta\",\"ts\":\"2024-01-01T05:30:00+05:30\",\"ver\":\"1.0\"},\"Payees\":{\"Payee\":[{\"Ac\":{\"Detail\":[{\"name\":\"IFSC\",\"value\":\"BBBB0000000\"},{\"name\":\"ACNUM\",\"value\":\"2\"}],\"addrType\":\"ACCOUNT\"},\"addr\":\"bob@beta\"}]},\"Payer\":{\"Ac\":{\"Detail\":[{\"name\":\"IFSC\",\"value\":\"AAAA0000000\"},{\"name\":\"ACNUM\",\"value\":\"1\"}],\"addrType\":\"ACCOUNT\"},\"Amount\":{\"curr\":\"INR\",\"value\":\"30.00\"},\"addr\":\"ann@alpha\"},\"Txn\":{\"Rules\":{\"Rule\":[{\"name\":\"EXPIREAFTER\",\"value\":\"1\"}]},\"id\":\"C1\",\"note\":\"for \\\"tea\\\" \\\\ cake\",\"type\":\"COLLECT\"}}}"
+        )?
+    );
     Ok(())
 }
 
 #[test]
 fn answers(rt: HostRuntime) -> Result<(), Fail> {
     let alloc = rt.alloc();
-    let no = Boxed::new(alloc, refusal().ok_or("an answer")?).ok().ok_or("memory")?;
-    assert!(rt; is_written(alloc, &Message::AuthAnswer(no), b"{\"RespAuthDetails\":{\"Head\":{\"msgId\":\"A2\",\"orgId\":\"alpha\",\"ts\":\"2024-01-01T05:30:00+05:30\",\"ver\":\"1.0\"},\"Payees\":{\"Payee\":[{\"Ac\":{\"Detail\":[{\"name\":\"IFSC\",\"value\":\"BBBB0000000\"},{\"name\":\"ACNUM\",\"value\":\"2\"}],\"addrType\":\"ACCOUNT\"}}]},\"Payer\":{\"Amount\":{\"curr\":\"INR\",\"value\":\"30.00\"}},\"Resp\":{\"reqMsgId\":\"M1\",\"result\":\"FAILURE\"},\"Txn\":{\"id\":\"C1\"}}}")?);
+    let no = Boxed::new(alloc, refusal().ok_or("an answer")?)
+        .ok()
+        .ok_or("memory")?;
+    assert!(rt;
+        is_written(
+            alloc,
+            &Message::AuthAnswer(no),
+            b"{\"RespAuthDetails\":{\"Head\":{\"msgId\":\"A2\",\"orgId\":\"alpha\",\"ts\":\"2024-01-01T05:30:00+05:30\",\"ver\":\"1.0\"},\"Payees\":{\"Payee\":[{\"Ac\":{\"Detail\":[{\"name\":\"IFSC\",\"value\":\"BBBB0000000\"},{\"name\":\"ACNUM\",\"value\":\"2\"}],\"addrType\":\"ACCOUNT\"}}]},\"Payer\":{\"Amount\":{\"curr\":\"INR\",\"value\":\"30.00\"}},\"Resp\":{\"reqMsgId\":\"M1\",\"result\":\"FAILURE\"},\"Txn\":{\"id\":\"C1\"}}}"
+        )?
+    );
     let check = Chk {
         head: head(b"A3", b"alpha").ok_or("a head")?,
         txn: TxnId::read(b"T1").ok_or("an id")?,
     };
-    assert!(rt; is_written(alloc, &Message::Check(check), b"{\"ReqChkTxn\":{\"Head\":{\"msgId\":\"A3\",\"orgId\":\"alpha\",\"ts\":\"2024-01-01T05:30:00+05:30\",\"ver\":\"1.0\"},\"Txn\":{\"id\":\"T1\"}}}")?);
+    assert!(rt;
+        is_written(
+            alloc,
+            &Message::Check(check),
+            b"{\"ReqChkTxn\":{\"Head\":{\"msgId\":\"A3\",\"orgId\":\"alpha\",\"ts\":\"2024-01-01T05:30:00+05:30\",\"ver\":\"1.0\"},\"Txn\":{\"id\":\"T1\"}}}"
+        )?
+    );
     let confirmed = ConfResp {
         head: head(b"B2", b"beta").ok_or("a head")?,
         req_msg: MsgId::read(b"M1").ok_or("an id")?,
         txn: TxnId::read(b"T1").ok_or("an id")?,
     };
     let confirmed = Boxed::new(alloc, confirmed).ok().ok_or("memory")?;
-    assert!(rt; is_written(alloc, &Message::Confirmed(confirmed), b"{\"RespTxnConfirmation\":{\"Head\":{\"msgId\":\"B2\",\"orgId\":\"beta\",\"ts\":\"2024-01-01T05:30:00+05:30\",\"ver\":\"1.0\"},\"Resp\":{\"reqMsgId\":\"M1\"},\"Txn\":{\"id\":\"T1\"}}}")?);
+    assert!(rt;
+        is_written(
+            alloc,
+            &Message::Confirmed(confirmed),
+            b"{\"RespTxnConfirmation\":{\"Head\":{\"msgId\":\"B2\",\"orgId\":\"beta\",\"ts\":\"2024-01-01T05:30:00+05:30\",\"ver\":\"1.0\"},\"Resp\":{\"reqMsgId\":\"M1\"},\"Txn\":{\"id\":\"T1\"}}}"
+        )?
+    );
     let foreign = Message::Foreign {
         api: Api::ReqTxnConfirmation,
         head: head(b"A9", b"alpha").ok_or("a head")?,
     };
-    assert!(rt; is_written(alloc, &foreign, b"{\"ReqTxnConfirmation\":{\"Head\":{\"msgId\":\"A9\",\"orgId\":\"alpha\",\"ts\":\"2024-01-01T05:30:00+05:30\",\"ver\":\"1.0\"}}}")?);
+    assert!(rt;
+        is_written(
+            alloc,
+            &foreign,
+            b"{\"ReqTxnConfirmation\":{\"Head\":{\"msgId\":\"A9\",\"orgId\":\"alpha\",\"ts\":\"2024-01-01T05:30:00+05:30\",\"ver\":\"1.0\"}}}"
+        )?
+    );
     Ok(())
 }
 
-fn is_plain(alloc: Global, text: &[u8]) -> Result<bool, Fail> {
-    Ok(read_plain(alloc, text).ok().ok_or("memory")?.is_some())
+fn is_plain(alloc: Global, parts: &[&[u8]]) -> Result<bool, Fail> {
+    let text = joined(alloc, parts)?;
+    Ok(read_plain(alloc, &text).ok().ok_or("memory")?.is_some())
 }
 
 #[test]
 fn plain_payment(rt: HostRuntime) -> Result<(), Fail> {
     let alloc = rt.alloc();
-    let found = read_plain(alloc, P1).ok().ok_or("memory")?;
-    let expected = Boxed::new(alloc, p1().ok_or("a payment")?).ok().ok_or("memory")?;
+    let text = joined(alloc, &[HEAD, PAYEES, PAYER, TXN])?;
+    let found = read_plain(alloc, &text).ok().ok_or("memory")?;
+    let expected = Boxed::new(alloc, p1().ok_or("a payment")?)
+        .ok()
+        .ok_or("memory")?;
     assert!(rt; found == Some(Message::Pay(expected)));
     Ok(())
 }
@@ -122,21 +185,23 @@ fn plain_payment(rt: HostRuntime) -> Result<(), Fail> {
 #[test]
 fn other_payments(rt: HostRuntime) -> Result<(), Fail> {
     let alloc = rt.alloc();
-    // One decimal too few, one too many.
-    assert!(rt; !is_plain(alloc, b"{\"ReqPay\":{\"Head\":{\"msgId\":\"A1\",\"orgId\":\"alpha\",\"ts\":\"2024-01-01T05:30:00+05:30\",\"ver\":\"1.0\"},\"Payees\":{\"Payee\":[{\"addr\":\"bob@beta\"}]},\"Payer\":{\"Amount\":{\"curr\":\"INR\",\"value\":\"30\"},\"addr\":\"ann@alpha\"},\"Txn\":{\"id\":\"T1\",\"type\":\"PAY\"}}}")?);
-    assert!(rt; !is_plain(alloc, b"{\"ReqPay\":{\"Head\":{\"msgId\":\"A1\",\"orgId\":\"alpha\",\"ts\":\"2024-01-01T05:30:00+05:30\",\"ver\":\"1.0\"},\"Payees\":{\"Payee\":[{\"addr\":\"bob@beta\"}]},\"Payer\":{\"Amount\":{\"curr\":\"INR\",\"value\":\"1.005\"},\"addr\":\"ann@alpha\"},\"Txn\":{\"id\":\"T1\",\"type\":\"PAY\"}}}")?);
-    // A space more.
-    assert!(rt; !is_plain(alloc, b"{\"ReqPay\":{\"Head\":{\"msgId\":\"A1\",\"orgId\":\"alpha\",\"ts\":\"2024-01-01T05:30:00+05:30\",\"ver\":\"1.0\"},\"Payees\":{\"Payee\":[{\"addr\":\"bob@beta\"}]},\"Payer\":{\"Amount\":{\"curr\":\"INR\",\"value\":\"30.00\"},\"addr\":\"ann@alpha\"},\"Txn\":{\"id\":\"T1\",\"type\":\"PAY\"}}} ")?);
-    // Members in another order.
-    assert!(rt; !is_plain(alloc, b"{\"ReqPay\":{\"Head\":{\"msgId\":\"A1\",\"orgId\":\"alpha\",\"ts\":\"2024-01-01T05:30:00+05:30\",\"ver\":\"1.0\"},\"Payees\":{\"Payee\":[{\"addr\":\"bob@beta\"}]},\"Payer\":{\"Amount\":{\"curr\":\"INR\",\"value\":\"30.00\"},\"addr\":\"ann@alpha\"},\"Txn\":{\"type\":\"PAY\",\"id\":\"T1\"}}}")?);
-    // A note.
-    assert!(rt; !is_plain(alloc, b"{\"ReqPay\":{\"Head\":{\"msgId\":\"A1\",\"orgId\":\"alpha\",\"ts\":\"2024-01-01T05:30:00+05:30\",\"ver\":\"1.0\"},\"Payees\":{\"Payee\":[{\"addr\":\"bob@beta\"}]},\"Payer\":{\"Amount\":{\"curr\":\"INR\",\"value\":\"30.00\"},\"addr\":\"ann@alpha\"},\"Txn\":{\"id\":\"T1\",\"note\":\"tea\",\"type\":\"PAY\"}}}")?);
-    // A COLLECT, and no type.
-    assert!(rt; !is_plain(alloc, b"{\"ReqPay\":{\"Head\":{\"msgId\":\"A1\",\"orgId\":\"alpha\",\"ts\":\"2024-01-01T05:30:00+05:30\",\"ver\":\"1.0\"},\"Payees\":{\"Payee\":[{\"addr\":\"bob@beta\"}]},\"Payer\":{\"Amount\":{\"curr\":\"INR\",\"value\":\"30.00\"},\"addr\":\"ann@alpha\"},\"Txn\":{\"id\":\"T1\",\"type\":\"COLLECT\"}}}")?);
-    assert!(rt; !is_plain(alloc, b"{\"ReqPay\":{\"Head\":{\"msgId\":\"A1\",\"orgId\":\"alpha\",\"ts\":\"2024-01-01T05:30:00+05:30\",\"ver\":\"1.0\"},\"Payees\":{\"Payee\":[{\"addr\":\"bob@beta\"}]},\"Payer\":{\"Amount\":{\"curr\":\"INR\",\"value\":\"30.00\"},\"addr\":\"ann@alpha\"},\"Txn\":{\"id\":\"T1\"}}}")?);
-    // The payee's amount.
-    assert!(rt; !is_plain(alloc, b"{\"ReqPay\":{\"Head\":{\"msgId\":\"A1\",\"orgId\":\"alpha\",\"ts\":\"2024-01-01T05:30:00+05:30\",\"ver\":\"1.0\"},\"Payees\":{\"Payee\":[{\"Amount\":{\"curr\":\"INR\",\"value\":\"30.00\"},\"addr\":\"bob@beta\"}]},\"Payer\":{\"Amount\":{\"curr\":\"INR\",\"value\":\"30.00\"},\"addr\":\"ann@alpha\"},\"Txn\":{\"id\":\"T1\",\"type\":\"PAY\"}}}")?);
-    // No UTF-8.
-    assert!(rt; !is_plain(alloc, b"{\"ReqPay\":\"\xff\"}")?);
+    let short: &[u8] =
+        b"\"Payer\":{\"Amount\":{\"curr\":\"INR\",\"value\":\"30\"},\"addr\":\"ann@alpha\"},";
+    assert!(rt; !is_plain(alloc, &[HEAD, PAYEES, short, TXN])?);
+    let long: &[u8] =
+        b"\"Payer\":{\"Amount\":{\"curr\":\"INR\",\"value\":\"1.005\"},\"addr\":\"ann@alpha\"},";
+    assert!(rt; !is_plain(alloc, &[HEAD, PAYEES, long, TXN])?);
+    assert!(rt; !is_plain(alloc, &[HEAD, PAYEES, PAYER, TXN, b" "])?);
+    assert!(rt; !is_plain(alloc, &[HEAD, PAYER, PAYEES, TXN])?);
+    let note: &[u8] = b"\"Txn\":{\"id\":\"T1\",\"note\":\"tea\",\"type\":\"PAY\"}}}";
+    assert!(rt; !is_plain(alloc, &[HEAD, PAYEES, PAYER, note])?);
+    let collect: &[u8] = b"\"Txn\":{\"id\":\"T1\",\"type\":\"COLLECT\"}}}";
+    assert!(rt; !is_plain(alloc, &[HEAD, PAYEES, PAYER, collect])?);
+    let untyped: &[u8] = b"\"Txn\":{\"id\":\"T1\"}}}";
+    assert!(rt; !is_plain(alloc, &[HEAD, PAYEES, PAYER, untyped])?);
+    let amount: &[u8] =
+        b"\"Payees\":{\"Payee\":[{\"Amount\":{\"curr\":\"INR\",\"value\":\"30.00\"},\"addr\":\"bob@beta\"}]},";
+    assert!(rt; !is_plain(alloc, &[HEAD, amount, PAYER, TXN])?);
+    assert!(rt; !is_plain(alloc, &[b"{\"ReqPay\":\"\xff\"}"])?);
     Ok(())
 }
