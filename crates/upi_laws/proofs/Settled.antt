@@ -1,14 +1,12 @@
 -- What the close settles: outcomes, legs, items, nets and positions.
-use Rattle.std.proofs.Common.{◌≡◌, ℕ, ◌+◌, Bool, true, false, cond, List, [], ◌∷◌, ◌++◌, Option, Some, None, refl, sym, ◌∙◌, ap, subst, inl, inr, ◌⊎◌, ℤ, pos, ◌+ℤ◌, arith}
-use Rattle.std.specs.Prelude.{is_some, not, ◌&&◌, ◌||◌, ◌-ℤ◌}
-use Rattle.std.specs.List.{AllByRecursion, sum_by, count_by, flat_map}
+use Rattle.std.proofs.Common.{◌≡◌, ℕ, ◌+◌, Bool, true, false, cond, List, [], ◌∷◌, ◌++◌, Option, Some, refl, sym, ◌∙◌, ap, subst, inl, inr, ◌⊎◌, ℤ, pos, ◌+ℤ◌, arith}
+use Rattle.std.specs.Prelude.{not, ◌&&◌, ◌||◌, ◌-ℤ◌}
+use Rattle.std.specs.List.{AllByRecursion, sum_by}
 use Rattle.std.specs.Str.{bytes_eq}
 use Rattle.std.proofs.lemmas.List.Sums.{sum_by-cons}
 use Rattle.upi_base.specs.declared.entry.Entry.{Entry}
-use Rattle.upi_base.specs.declared.message.PayReq.{PayReq}
 use Rattle.upi_base.specs.declared.code.Leg.{Leg}
 use Rattle.upi_base.specs.declared.code.Leg.TheVariants as leg
-use Rattle.upi_base.specs.declared.code.Code.{Code}
 use Rattle.upi_base.specs.declared.code.Outcome.{Outcome}
 use Rattle.upi_base.specs.declared.code.Outcome.TheVariants as outcome
 use Rattle.upi_base.specs.declared.setup.Account.{Account}
@@ -21,11 +19,11 @@ use Rattle.upi_laws.specs.declared.places.Opening.{Opening}
 use Rattle.upi_laws.specs.History.{is_close, is_closed}
 use Rattle.upi_laws.specs.Places.{has_id, opened, opening}
 use Rattle.upi_laws.specs.Outcomes.{outcome_of}
-use Rattle.upi_laws.specs.Postings.{is_posted, posted_at, answer, amount_of, moved, balance, in_flight, flight}
-use Rattle.upi_laws.specs.Settlement.{bank_of, bank_at, is_settled, is_deemed, items_of, settle, received_in, paid_in, net, unmatched, recon, position, accounts, banks}
+use Rattle.upi_laws.specs.Postings.{is_posted, posted_at, answer, amount_of, moved, in_flight, flight}
+use Rattle.upi_laws.specs.Settlement.{bank_of, bank_at, is_settled, is_deemed, items_of, settle, received_in, paid_in, net, unmatched, recon, position, banks}
 use Rattle.upi_laws.specs.Legal.{Legal}
 use Rattle.upi_laws.specs.Laws.{IsAllowed}
-use Rattle.upi_laws.specs.Sound.{MovedAs, items_on, IsSettled, AllSettled, nets, NetsBalance, opened_with, held, items_at, BankBalances, BankNets, JustClosed, ClosesSound, LegalClosesSound, PrefixSound, Sound, LegalIsSound}
+use Rattle.upi_laws.specs.Sound.{MovedAs, items_on, AllSettled, nets, opened_with, held, items_at, BankBalances, BankNets, JustClosed, LegalClosesSound, PrefixSound, LegalIsSound}
 use Rattle.upi_laws.proofs.Facts.{outcome_stays}
 use Rattle.upi_laws.proofs.Openings.{openings_are_found, openings_are_allowed, opening_is_named}
 use Rattle.upi_laws.proofs.Closing.{closed_have_outcomes}
