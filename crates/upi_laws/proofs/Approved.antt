@@ -1,39 +1,33 @@
 -- Debits are approved.
-use Rattle.std.proofs.Common.{◌≡◌, ℕ, ◌+◌, ◌*◌, ◌<◌, Bool, true, false, cond, List, [], ◌∷◌, ◌++◌, Option, Some, None, refl, sym, ◌∙◌, ap, subst, inl, inr, ◌⊎◌, eqb-true, arith}
-use Rattle.std.specs.Prelude.{not, ◌&&◌, ◌||◌, ◌==◌, nat_lt, nat_le}
-use Rattle.std.specs.Option.{option_or, option_and_then}
+use Rattle.std.proofs.Common.{◌≡◌, ℕ, ◌+◌, ◌*◌, ◌<◌, Bool, true, false, List, [], ◌∷◌, Some, refl, sym, ◌∙◌, ap, subst, inl, inr, eqb-true}
+use Rattle.std.specs.Prelude.{◌&&◌, ◌==◌, nat_lt, nat_le}
 use Rattle.std.specs.Str.{bytes_eq}
 use Rattle.std.proofs.lemmas.Option.{option_and_then_some, cond_some}
 use Rattle.std.proofs.lemmas.Bool.{and_parts, ltb-true}
 use Rattle.std.proofs.lemmas.Slice.Eq.{bytes_eq-Decides}
 use Rattle.upi_base.specs.declared.entry.Entry.{Entry}
-use Rattle.upi_base.specs.declared.code.Kind.{Kind}
 use Rattle.upi_base.specs.declared.code.Kind.TheVariants as kind
-use Rattle.upi_base.specs.declared.code.Leg.{Leg}
 use Rattle.upi_base.specs.declared.code.Leg.TheVariants as leg
-use Rattle.upi_base.specs.declared.code.Answer.{Answer}
 use Rattle.upi_base.specs.declared.code.Answer.TheVariants as answered
 use Rattle.upi_base.specs.declared.setup.SetupLine.{SetupLine}
 use Rattle.upi_base.specs.Lists.{when}
 use Rattle.upi_base.specs.Setup.{provider}
 use Rattle.upi_laws.specs.declared.event.AuthWord.{AuthWord}
-use Rattle.upi_laws.specs.declared.event.Said.{Said}
 use Rattle.upi_laws.specs.declared.event.Said.TheVariants as said
 use Rattle.upi_laws.specs.declared.event.Event.{Event}
 use Rattle.upi_laws.specs.declared.event.Event.TheVariants as event
 use Rattle.upi_laws.specs.declared.places.Opening.{Opening}
-use Rattle.upi_laws.specs.declared.places.Decision.{Decision}
 use Rattle.upi_laws.specs.declared.places.Decision.TheVariants as decided
-use Rattle.upi_laws.specs.History.{first, is_closed, event_of}
-use Rattle.upi_laws.specs.Places.{side, asked, opening, minutes, due_from, due_answer, accounts_agree, yes_or_no, answers_in_time, decides_on, decides, decision}
-use Rattle.upi_laws.specs.Postings.{arrives, reversal_due, arrival, answer}
+use Rattle.upi_laws.specs.History.{is_closed, event_of}
+use Rattle.upi_laws.specs.Places.{asked, opening, minutes, due_answer, accounts_agree, yes_or_no, answers_in_time, decides_on, decides, decision}
+use Rattle.upi_laws.specs.Postings.{arrives, reversal_due, arrival}
 use Rattle.upi_laws.specs.Legal.{Legal}
-use Rattle.upi_laws.specs.Sound.{Approval, CollectsApproved}
-use Rattle.upi_laws.proofs.Stays.{or_cases, guarded, none_some, some_same, first_found, FoundAt, opening_stays, decision_stays}
+use Rattle.upi_laws.specs.Sound.{CollectsApproved}
+use Rattle.upi_laws.proofs.Stays.{or_cases, guarded, none_some, some_same, first_found, opening_stays, decision_stays}
 use Rattle.upi_laws.proofs.Facts.{found_stays, answered_arrived}
 use Rattle.upi_laws.proofs.Openings.{opening_is_named}
 use Rattle.upi_laws.proofs.Steps.{none_if}
-use Rattle.upi_laws.proofs.Once.{arrives_is, Arrives}
+use Rattle.upi_laws.proofs.Once.{arrives_is}
 use Rattle.upi_laws.proofs.Beginnings.{legal_before}
 use Rattle.upi_laws.proofs.Deliveries.{orders_are_placed}
 

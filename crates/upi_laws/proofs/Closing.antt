@@ -1,6 +1,6 @@
 -- What a Close decides.
-use Rattle.std.proofs.Common.{◌≡◌, ℕ, ◌+◌, Bool, true, false, cond, List, [], ◌∷◌, ◌++◌, Option, Some, None, refl, sym, ◌∙◌, ap, subst, inl, inr, ◌⊎◌}
-use Rattle.std.specs.Prelude.{is_some, is_none, not, ◌&&◌, ◌||◌, nat_le}
+use Rattle.std.proofs.Common.{◌≡◌, ℕ, Bool, true, false, List, [], ◌∷◌, Option, Some, None, refl, sym, ◌∙◌, ap, inl, inr}
+use Rattle.std.specs.Prelude.{is_some, ◌&&◌, ◌||◌, nat_le}
 use Rattle.std.specs.Option.{option_or, option_and_then, option_map}
 use Rattle.std.specs.Str.{bytes_eq}
 use Rattle.std.proofs.lemmas.Option.{option_and_then_some, cond_some}
@@ -21,7 +21,6 @@ use Rattle.upi_base.specs.declared.code.Answer.{Answer}
 use Rattle.upi_base.specs.declared.code.Answer.TheVariants as answered
 use Rattle.upi_base.specs.declared.code.Outcome.{Outcome}
 use Rattle.upi_base.specs.declared.setup.SetupLine.{SetupLine}
-use Rattle.upi_base.specs.Lists.{when}
 use Rattle.upi_laws.specs.declared.event.Said.{Said}
 use Rattle.upi_laws.specs.declared.event.Said.TheVariants as said
 use Rattle.upi_laws.specs.declared.event.Event.{Event}
@@ -32,9 +31,9 @@ use Rattle.upi_laws.specs.declared.places.Decision.TheVariants as decided
 use Rattle.upi_laws.specs.declared.places.LegEnd.{LegEnd}
 use Rattle.upi_laws.specs.declared.places.LegEnd.TheVariants as ended
 use Rattle.upi_laws.specs.History.{said_by, delivered, read_message, message_at, event_of, is_close, is_closed}
-use Rattle.upi_laws.specs.Places.{if_of, opens, opened, opening, due_answer, answers_in_time, yes_or_no, decides_on, decides, decision, end_told, tells, ends_on, ends, due_debit, debit, due_credit, credit, cause_by, cause, reverses_on, reverses, reversal}
+use Rattle.upi_laws.specs.Places.{if_of, opens, opened, opening, due_answer, answers_in_time, yes_or_no, decides_on, decides, decision, end_told, tells, ends_on, ends, due_debit, debit, due_credit, credit, cause_by, reversal}
 use Rattle.upi_laws.specs.Outcomes.{outcome_by, outcome_of}
-use Rattle.upi_laws.specs.Laws.{IsUncut, RunningIsUncut, ClosedHaveOutcomes}
+use Rattle.upi_laws.specs.Laws.{RunningIsUncut, ClosedHaveOutcomes}
 use Rattle.upi_laws.proofs.Stays.{or_none, or_cases, guarded, is_some_has, opening_more}
 use Rattle.upi_laws.proofs.Facts.{outcome_stays}
 use Rattle.upi_laws.proofs.Openings.{or_false}

@@ -1,7 +1,7 @@
 -- What a place stands on, and that outcomes stay.
-use Rattle.std.proofs.Common.{◌≡◌, ℕ, Bool, true, false, cond, List, [], ◌∷◌, ◌++◌, Option, Some, None, refl, sym, ◌∙◌, ap, subst, inl, inr, ◌⊎◌}
+use Rattle.std.proofs.Common.{◌≡◌, ℕ, Bool, true, false, List, [], ◌∷◌, ◌++◌, Option, Some, None, refl, sym, ◌∙◌, ap, subst, inl, inr, ◌⊎◌}
 use Rattle.std.specs.Prelude.{is_some}
-use Rattle.std.specs.Option.{option_or, option_and_then}
+use Rattle.std.specs.Option.{option_or}
 use Rattle.std.proofs.lemmas.Option.{option_and_then_some}
 use Rattle.upi_base.specs.declared.entry.Entry.{Entry}
 use Rattle.upi_base.specs.declared.code.Leg.{Leg}
@@ -11,20 +11,20 @@ use Rattle.upi_base.specs.declared.code.Code.TheVariants as code
 use Rattle.upi_base.specs.declared.code.Answer.{Answer}
 use Rattle.upi_base.specs.declared.code.Outcome.{Outcome}
 use Rattle.upi_base.specs.declared.setup.SetupLine.{SetupLine}
-use Rattle.upi_base.specs.Lists.{when, pick}
+use Rattle.upi_base.specs.Lists.{when}
 use Rattle.upi_laws.specs.declared.event.Event.{Event}
 use Rattle.upi_laws.specs.declared.places.Opening.{Opening}
 use Rattle.upi_laws.specs.declared.places.Decision.{Decision}
 use Rattle.upi_laws.specs.declared.places.Decision.TheVariants as decided
 use Rattle.upi_laws.specs.declared.places.LegEnd.{LegEnd}
 use Rattle.upi_laws.specs.declared.places.LegEnd.TheVariants as ended
-use Rattle.upi_laws.specs.History.{first, is_closed, event_of}
-use Rattle.upi_laws.specs.Places.{opened, if_of, opening, decides, decides_on, decision, ends, ends_on, due_debit, debit, due_credit, credit, cause_by, cause, reverses, reverses_on, reversal}
+use Rattle.upi_laws.specs.History.{is_closed, event_of}
+use Rattle.upi_laws.specs.Places.{opened, opening, decides, decides_on, decision, ends, ends_on, due_debit, debit, due_credit, credit, cause_by, cause, reverses, reverses_on, reversal}
 use Rattle.upi_laws.specs.Outcomes.{late_outcome, credit_outcome, debit_outcome, outcome_by, outcome_of}
 use Rattle.upi_laws.specs.Postings.{arrives, reversal_due, arrival, answer, post, post_leg}
 use Rattle.upi_laws.specs.Dues.{acknowledges, acknowledged}
-use Rattle.upi_laws.specs.Laws.{Stays, PlacesStay, AllPlacesStay, OutcomeStays, PlacesFollow, AllPlacesFollow}
-use Rattle.upi_laws.proofs.Stays.{or_cases, guarded, if_some, none_some, first_found, FoundAt, opening_stays, opening_stays_one, decision_stays, debit_stays, credit_stays, reversal_stays, acknowledged_stays, arrival_stays, answer_stays}
+use Rattle.upi_laws.specs.Laws.{Stays, AllPlacesStay, OutcomeStays, AllPlacesFollow}
+use Rattle.upi_laws.proofs.Stays.{or_cases, guarded, if_some, first_found, FoundAt, opening_stays, opening_stays_one, decision_stays, debit_stays, credit_stays, reversal_stays, acknowledged_stays, arrival_stays, answer_stays}
 
 -- what stood before a found place still stands
 pub found_stays : {X : Type 0} (fits : List Entry → Event → ℕ → Option X) (h : List Entry) (x : X) (f : FoundAt fits h x) (P : List Entry → Type 0)

@@ -1,11 +1,10 @@
 -- How the legs of a transaction moved, by one another and by the outcome.
-use Rattle.std.proofs.Common.{◌≡◌, ℕ, Bool, true, false, cond, List, [], ◌∷◌, ◌++◌, Option, Some, None, refl, sym, ◌∙◌, ap, subst, inl, inr, ◌⊎◌}
-use Rattle.std.specs.Prelude.{is_some, is_none, nat_lt}
-use Rattle.std.specs.Option.{option_or, option_and_then, option_map}
+use Rattle.std.proofs.Common.{◌≡◌, ℕ, Bool, true, false, List, [], ◌∷◌, Option, Some, None, refl, sym, ◌∙◌, ap, subst, inl, inr}
+use Rattle.std.specs.Prelude.{is_some}
+use Rattle.std.specs.Option.{option_map}
 use Rattle.std.proofs.lemmas.Option.{option_and_then_some, cond_some}
 use Rattle.std.proofs.lemmas.Bool.{false_from_ne_true, both_ways}
 use Rattle.upi_base.specs.declared.entry.Entry.{Entry}
-use Rattle.upi_base.specs.declared.message.PayReq.{PayReq}
 use Rattle.upi_base.specs.declared.code.Leg.{Leg}
 use Rattle.upi_base.specs.declared.code.Leg.TheVariants as leg
 use Rattle.upi_base.specs.declared.code.Code.{Code}
@@ -16,7 +15,6 @@ use Rattle.upi_base.specs.declared.code.Outcome.{Outcome}
 use Rattle.upi_base.specs.declared.code.Outcome.TheVariants as outcome
 use Rattle.upi_base.specs.declared.setup.Account.{Account}
 use Rattle.upi_base.specs.declared.setup.SetupLine.{SetupLine}
-use Rattle.upi_base.specs.Lists.{when, pick}
 use Rattle.upi_base.specs.Setup.{account_at}
 use Rattle.upi_laws.specs.declared.event.Event.{Event}
 use Rattle.upi_laws.specs.declared.event.Event.TheVariants as event
@@ -26,12 +24,12 @@ use Rattle.upi_laws.specs.declared.places.Decision.TheVariants as decided
 use Rattle.upi_laws.specs.declared.places.LegEnd.{LegEnd}
 use Rattle.upi_laws.specs.declared.places.LegEnd.TheVariants as ended
 use Rattle.upi_laws.specs.History.{is_closed, event_of}
-use Rattle.upi_laws.specs.Places.{opened, opening, if_of, decision, debit, credit, cause_by, cause, reversal}
+use Rattle.upi_laws.specs.Places.{opened, opening, decision, debit, credit, cause_by, cause, reversal}
 use Rattle.upi_laws.specs.Outcomes.{late_code, late_outcome, credit_outcome, debit_outcome, outcome_by, outcome_of}
 use Rattle.upi_laws.specs.Postings.{is_posted, balance_by, post_debit, post_reversal, post_leg, post, arrives, reversal_due, answer}
 use Rattle.upi_laws.specs.Legal.{Legal}
-use Rattle.upi_laws.specs.Backed.{AnswerPlaced, EndAnswered, LegsAreAnswered}
-use Rattle.upi_laws.proofs.Stays.{or_cases, if_some, none_some, is_some_has, some_same, answer_stays}
+use Rattle.upi_laws.specs.Backed.{AnswerPlaced}
+use Rattle.upi_laws.proofs.Stays.{or_cases, if_some, is_some_has, some_same, answer_stays}
 use Rattle.upi_laws.proofs.Facts.{debit_approved, credit_debited, cause_from}
 use Rattle.upi_laws.proofs.Openings.{opening_is_named}
 use Rattle.upi_laws.proofs.Steps.{none_if}

@@ -16,3 +16,6 @@ pub mod Stages
 pub mod Tellings
 pub mod Sums
 pub mod Ints
+pub mod Conserved
+pub mod Settled
+pub mod Waits

@@ -1,10 +1,10 @@
 -- Each leg posts once.
-use Rattle.std.proofs.Common.{◌≡◌, ℕ, ◌+◌, ◌-◌, Bool, true, false, cond, List, [], ◌∷◌, ◌++◌, Option, Some, None, refl, sym, ◌∙◌, ap, subst, inl, inr, ◌⊎◌, arith}
-use Rattle.std.specs.Prelude.{is_some, is_none, not, ◌&&◌, ◌||◌}
-use Rattle.std.specs.Option.{option_or, option_and_then, option_map}
+use Rattle.std.proofs.Common.{◌≡◌, ℕ, ◌+◌, ◌-◌, Bool, true, false, cond, List, [], ◌∷◌, Option, Some, None, refl, sym, ◌∙◌, ap, subst, inl, inr, ◌⊎◌, arith}
+use Rattle.std.specs.Prelude.{is_some, is_none, not, ◌&&◌}
+use Rattle.std.specs.Option.{option_or}
 use Rattle.std.specs.Str.{bytes_eq}
-use Rattle.std.proofs.lemmas.Option.{option_and_then_some, cond_some}
-use Rattle.std.proofs.lemmas.Bool.{and_parts, not-true, both_ways, or_cases as either_true}
+use Rattle.std.proofs.lemmas.Option.{cond_some}
+use Rattle.std.proofs.lemmas.Bool.{and_parts, or_cases as either_true}
 use Rattle.std.proofs.lemmas.Slice.Eq.{bytes_eq-Decides}
 use Rattle.std.proofs.lemmas.List.Sums.{sum_by-append}
 use Rattle.upi_base.specs.declared.entry.Entry.{Entry}
@@ -21,35 +21,32 @@ use Rattle.upi_base.specs.declared.code.Leg.TheVariants as leg
 use Rattle.upi_base.specs.declared.code.Code.{Code}
 use Rattle.upi_base.specs.declared.code.Code.TheVariants as code
 use Rattle.upi_base.specs.declared.code.Answer.{Answer}
-use Rattle.upi_base.specs.declared.code.Reply.{Reply}
-use Rattle.upi_base.specs.declared.code.Reply.TheVariants as reply
 use Rattle.upi_base.specs.declared.setup.AccountRef.{AccountRef}
 use Rattle.upi_base.specs.declared.setup.Account.{Account}
 use Rattle.upi_base.specs.declared.setup.SetupLine.{SetupLine}
-use Rattle.upi_base.specs.Lists.{when, pick, joined}
+use Rattle.upi_base.specs.Lists.{when, joined}
 use Rattle.upi_base.specs.Setup.{account_at}
 use Rattle.upi_laws.specs.declared.event.Said.{Said}
 use Rattle.upi_laws.specs.declared.event.Said.TheVariants as said
 use Rattle.upi_laws.specs.declared.event.Event.{Event}
 use Rattle.upi_laws.specs.declared.event.Event.TheVariants as event
 use Rattle.upi_laws.specs.declared.places.Opening.{Opening}
-use Rattle.upi_laws.specs.declared.places.Decision.{Decision}
 use Rattle.upi_laws.specs.declared.places.Decision.TheVariants as decided
 use Rattle.upi_laws.specs.declared.places.LegEnd.{LegEnd}
 use Rattle.upi_laws.specs.declared.places.LegEnd.TheVariants as ended
 use Rattle.upi_laws.specs.History.{said_by, delivered, read_message, message_at, event_of, is_closed}
-use Rattle.upi_laws.specs.Places.{same_leg, if_of, opens, opened, opening, decision, due_debit, debit, credit, cause_by, cause, reversal}
-use Rattle.upi_laws.specs.Postings.{Answers, is_posted, is_account, posted_at, share, total, balance_by, balance, post_leg, post, arrives_on, arrives, reversal_due, arrival, answer}
-use Rattle.upi_laws.specs.Replies.{no, order_answer, reply_order, reply_on, reply_closed, reply_to}
+use Rattle.upi_laws.specs.Places.{same_leg, opens, opened, opening, decision, due_debit, debit, credit, cause_by, cause, reversal}
+use Rattle.upi_laws.specs.Postings.{Answers, is_posted, is_account, posted_at, share, total, balance_by, post, arrives_on, arrives, reversal_due, arrival, answer}
+use Rattle.upi_laws.specs.Replies.{no, order_answer, reply_order, reply_on, reply_closed}
 use Rattle.upi_laws.specs.Legal.{Legal, IsRight}
 use Rattle.upi_laws.specs.Backed.{BackedBy, IsOrder}
 use Rattle.upi_laws.specs.Laws.{IsNoFirstArrival, OnlyArrivalsMove, ArrivedIsAnswered}
-use Rattle.upi_laws.specs.Sound.{IsNoArrival, LatestPosts, LegsPosted, LegsPostOnce, LegalPostsOnce}
-use Rattle.upi_laws.proofs.Stays.{or_none, or_cases, or_stays, guarded, some_is, none_some, is_some_has, answer_stays}
+use Rattle.upi_laws.specs.Sound.{LatestPosts, LegsPosted, LegalPostsOnce}
+use Rattle.upi_laws.proofs.Stays.{or_none, or_cases, some_is, none_some, is_some_has, answer_stays}
 use Rattle.upi_laws.proofs.Facts.{decided_opened, due_debit_is, debit_approved, credit_debited, cause_from, answered_opened, arrives_arrived}
 use Rattle.upi_laws.proofs.Openings.{opens_found}
 use Rattle.upi_laws.proofs.Steps.{none_if, if_false}
-use Rattle.upi_laws.proofs.Beginnings.{legal_before, legal_at}
+use Rattle.upi_laws.proofs.Beginnings.{legal_before}
 use Rattle.upi_laws.proofs.Backed.{message_backed}
 
 -- ---- balances

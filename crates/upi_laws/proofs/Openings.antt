@@ -1,11 +1,11 @@
 -- The openings of a history.
-use Rattle.std.proofs.Common.{◌≡◌, ℕ, zero, suc, ◌+◌, ◌*◌, ◌≤◌, ◌<◌, Bool, true, false, cond, List, [], ◌∷◌, ◌++◌, length, Option, Some, None, refl, sym, ◌∙◌, ap, subst, inl, inr, ◌⊎◌, eqb-true, arith}
+use Rattle.std.proofs.Common.{◌≡◌, ℕ, zero, suc, ◌+◌, ◌*◌, ◌≤◌, ◌<◌, Bool, true, false, cond, List, [], ◌∷◌, ◌++◌, length, Option, Some, None, refl, sym, ◌∙◌, ap, subst, inl, inr, eqb-true, arith}
 use Rattle.std.specs.Prelude.{is_some, is_none, not, ◌&&◌, ◌||◌, ◌==◌, nat_lt, nat_le, ◌%◌}
 use Rattle.std.specs.Option.{option_or, option_and_then}
-use Rattle.std.specs.List.{AllByRecursion, list_any, count_by, sum_by}
+use Rattle.std.specs.List.{AllByRecursion, list_any, count_by}
 use Rattle.std.specs.Str.{bytes_eq}
-use Rattle.std.proofs.lemmas.Option.{option_and_then_some, cond_some}
-use Rattle.std.proofs.lemmas.Bool.{and_parts, not-true, both_ways}
+use Rattle.std.proofs.lemmas.Option.{cond_some}
+use Rattle.std.proofs.lemmas.Bool.{and_parts, not-true}
 use Rattle.std.proofs.lemmas.Bool.Decides.{nat_tests}
 use Rattle.std.proofs.lemmas.Slice.Eq.{bytes_eq-Decides}
 use Rattle.std.proofs.lemmas.List.Sums.{sum_by-append, sum_by-cons}
@@ -13,9 +13,8 @@ use Rattle.upi_base.specs.declared.entry.Entry.{Entry}
 use Rattle.upi_base.specs.declared.message.PayReq.{PayReq}
 use Rattle.upi_base.specs.declared.code.Code.{Code}
 use Rattle.upi_base.specs.declared.code.Code.TheVariants as code
-use Rattle.upi_base.specs.declared.setup.Account.{Account}
 use Rattle.upi_base.specs.declared.setup.SetupLine.{SetupLine}
-use Rattle.upi_base.specs.Lists.{when, pick, joined}
+use Rattle.upi_base.specs.Lists.{pick, joined}
 use Rattle.upi_base.specs.Setup.{account_at}
 use Rattle.upi_base.specs.Shards.{txn_shard, shard_after}
 use Rattle.upi_laws.specs.declared.event.Said.{Said}
@@ -23,7 +22,7 @@ use Rattle.upi_laws.specs.declared.event.Said.TheVariants as said
 use Rattle.upi_laws.specs.declared.event.Event.{Event}
 use Rattle.upi_laws.specs.declared.event.Event.TheVariants as event
 use Rattle.upi_laws.specs.declared.places.Opening.{Opening}
-use Rattle.upi_laws.specs.History.{first, is_closed, event_of}
+use Rattle.upi_laws.specs.History.{is_closed, event_of}
 use Rattle.upi_laws.specs.Places.{asking, agrees, one_account, has_id, in_shard, refusal, opens_said, opens_on, opens, opened, if_of, opening}
 use Rattle.upi_laws.specs.Laws.{OpeningsAreFound, OpeningIsNamed, OpeningIsFirst, IsAllowed, OpeningsAreAllowed, ShardsHaveRoom, OpeningsHaveRoom}
 use Rattle.upi_laws.proofs.Stays.{or_cases, guarded, opening_more, opening_stays_one}

@@ -1,27 +1,25 @@
 -- What an accepted setup has: each account once, each bank once, and a bank for each account.
-use Rattle.std.proofs.Common.{◌≡◌, ℕ, ◌+◌, ◌≤◌, Bool, true, false, cond, List, [], ◌∷◌, ◌++◌, Option, Some, None, refl, sym, ◌∙◌, ap, subst, inl, inr, ◌⊎◌, arith}
+use Rattle.std.proofs.Common.{◌≡◌, ℕ, ◌+◌, Bool, true, false, cond, List, [], ◌∷◌, ◌++◌, Option, Some, None, refl, sym, ◌∙◌, ap, subst, inl, inr, arith}
 use Rattle.std.specs.Prelude.{is_some, is_none, not, ◌&&◌, ◌||◌, nat_le}
-use Rattle.std.specs.Option.{option_or, option_and_then}
-use Rattle.std.specs.List.{AllByRecursion, list_any, count_by, sum_by}
+use Rattle.std.specs.Option.{option_or}
+use Rattle.std.specs.List.{AllByRecursion, list_any, count_by}
 use Rattle.std.specs.Str.{bytes_eq}
 use Rattle.std.proofs.lemmas.Option.{option_and_then_some, cond_some}
-use Rattle.std.proofs.lemmas.Bool.{and_parts, not-true, both_ways, false_from_ne_true}
+use Rattle.std.proofs.lemmas.Bool.{and_parts, both_ways}
 use Rattle.std.proofs.lemmas.Slice.Eq.{bytes_eq-Decides}
 use Rattle.std.proofs.lemmas.List.{append-nil, append_assoc}
-use Rattle.std.proofs.lemmas.List.Sums.{sum_by-append, sum_by-cons}
+use Rattle.std.proofs.lemmas.List.Sums.{sum_by-append}
 use Rattle.upi_base.specs.declared.fault.Why.{Why}
 use Rattle.upi_base.specs.declared.fault.Why.TheVariants as why
-use Rattle.upi_base.specs.declared.code.Policy.{Policy}
 use Rattle.upi_base.specs.declared.setup.AccountRef.{AccountRef}
 use Rattle.upi_base.specs.declared.setup.Account.{Account}
 use Rattle.upi_base.specs.declared.setup.Listing.{Listing}
 use Rattle.upi_base.specs.declared.setup.SetupLine.{SetupLine}
 use Rattle.upi_base.specs.declared.setup.SetupLine.TheVariants as line
-use Rattle.upi_base.specs.Lists.{when, pick}
 use Rattle.upi_base.specs.Setup.{same_account, is_bank_line, is_account_line, names_bank, account_in, has_bank, account_named, listing_at, account_at, bank_fault, account_fault, setup_fault, accepts_from, is_setup}
 use Rattle.upi_laws.specs.Settlement.{accounts, banks}
-use Rattle.upi_laws.proofs.Stays.{or_cases, or_none, or_stays, or_assoc, pick_append, none_some, some_same, some_is, is_some_has}
-use Rattle.upi_laws.proofs.Openings.{all_append, all_map, or_false}
+use Rattle.upi_laws.proofs.Stays.{or_cases, or_none, or_stays, pick_append, some_same}
+use Rattle.upi_laws.proofs.Openings.{all_append, all_map}
 
 abbrev pub tally : Bool → ℕ
 tally b = cond b 1 0
@@ -306,8 +304,8 @@ address_account S addr k e at = option_and_then_some (λ (l : Listing). account_
     let bank = named_all (λ (a : Account). has_bank S a.ac.bank ≡ true) S l.ac k (accounts_banked S e) named in
     record {
       once = count_same (λ (a : Account). same_account k.ac a.ac) (λ (a : Account). same_account a.ac k.ac) (λ a. account_swap k.ac a.ac) (accounts S)
-      ∙ (accounts_once S e k.ac ∙ ap (λ (o : Option Account). tally (is_some o)) own.1);
+          ∙ (accounts_once S e k.ac ∙ ap (λ (o : Option Account). tally (is_some o)) own.1);
       alone = named_alone S k (accounts S) own.1 (accounts_found S e);
       banked = count_same (λ (b : List ℕ). bytes_eq k.ac.bank b) (λ (b : List ℕ). bytes_eq b k.ac.bank) (λ b. bytes_swap k.ac.bank b) (banks S)
-      ∙ (banks_once S e k.ac.bank ∙ ap (λ (b : Bool). tally b) bank.1);
+          ∙ (banks_once S e k.ac.bank ∙ ap (λ (b : Bool). tally b) bank.1);
     })

@@ -1,27 +1,19 @@
 -- What was found in a prefix is found in the history.
-use Rattle.std.proofs.Common.{◌≡◌, ◌≢◌, ℕ, Bool, true, false, cond, List, [], ◌∷◌, ◌++◌, Option, Some, None, refl, sym, ◌∙◌, ap, subst, inl, inr, ◌⊎◌}
+use Rattle.std.proofs.Common.{◌≡◌, ℕ, Bool, true, false, cond, List, [], ◌∷◌, ◌++◌, Option, Some, None, refl, sym, ◌∙◌, ap, inl, inr, ◌⊎◌}
 use Rattle.std.specs.Prelude.{is_some}
 use Rattle.std.specs.Option.{option_or, option_and_then}
-use Rattle.std.proofs.lemmas.Option.{option_and_then_some}
 use Rattle.upi_base.specs.declared.entry.Entry.{Entry}
 use Rattle.upi_base.specs.declared.code.Leg.{Leg}
 use Rattle.upi_base.specs.declared.code.Leg.TheVariants as leg
-use Rattle.upi_base.specs.declared.code.Code.{Code}
-use Rattle.upi_base.specs.declared.code.Outcome.{Outcome}
 use Rattle.upi_base.specs.declared.setup.SetupLine.{SetupLine}
 use Rattle.upi_base.specs.Lists.{when, pick, joined}
 use Rattle.upi_laws.specs.declared.event.Event.{Event}
-use Rattle.upi_laws.specs.declared.places.Opening.{Opening}
-use Rattle.upi_laws.specs.declared.places.Decision.{Decision}
-use Rattle.upi_laws.specs.declared.places.Decision.TheVariants as decided
-use Rattle.upi_laws.specs.declared.places.LegEnd.{LegEnd}
-use Rattle.upi_laws.specs.declared.places.LegEnd.TheVariants as ended
 use Rattle.upi_laws.specs.History.{first, is_closed, event_of}
-use Rattle.upi_laws.specs.Places.{opens, opened, if_of, opening, decides, decides_on, decision, ends, ends_on, due_debit, debit, due_credit, credit, cause_by, cause, reverses, reversal}
-use Rattle.upi_laws.specs.Outcomes.{late_outcome, credit_outcome, debit_outcome, outcome_by, outcome_of}
+use Rattle.upi_laws.specs.Places.{opens, opened, if_of, opening, decides, decision, ends, due_debit, debit, due_credit, credit, cause, reverses, reversal}
+use Rattle.upi_laws.specs.Outcomes.{outcome_of}
 use Rattle.upi_laws.specs.Postings.{arrives, reversal_due, arrival, answer}
 use Rattle.upi_laws.specs.Dues.{acknowledges, acknowledged}
-use Rattle.upi_laws.specs.Laws.{Stays, PlacesStay, AllPlacesStay, OpeningsGrow, OutcomeStays}
+use Rattle.upi_laws.specs.Laws.{Stays, OpeningsGrow}
 
 -- ---- options
 

@@ -1,28 +1,15 @@
 -- What one more entry adds to a transaction.
-use Rattle.std.proofs.Common.{◌≡◌, ℕ, ◌+◌, ◌≤◌, Bool, true, false, cond, List, [], ◌∷◌, ◌++◌, Option, Some, None, refl, sym, ◌∙◌, ap, subst, inl, inr, ◌⊎◌, arith}
-use Rattle.std.specs.Prelude.{is_some, is_none, not, ◌&&◌, ◌||◌, nat_le}
-use Rattle.std.specs.Option.{option_or, option_and_then, option_map}
+use Rattle.std.proofs.Common.{◌≡◌, ℕ, ◌+◌, ◌≤◌, Bool, true, false, cond, List, ◌∷◌, Option, Some, None, refl, sym, ◌∙◌, ap, inl, inr, arith}
+use Rattle.std.specs.Prelude.{is_some, not, ◌&&◌}
+use Rattle.std.specs.Option.{option_and_then}
 use Rattle.std.specs.Str.{bytes_eq}
 use Rattle.std.proofs.lemmas.Option.{option_and_then_some}
-use Rattle.std.proofs.lemmas.Bool.{both_ways}
 use Rattle.upi_base.specs.declared.entry.Entry.{Entry}
-use Rattle.upi_base.specs.declared.entry.Call.{Call}
-use Rattle.upi_base.specs.declared.entry.Call.TheVariants as call
-use Rattle.upi_base.specs.declared.message.Input.TheVariants as input
-use Rattle.upi_base.specs.declared.sent.Sent.{Sent}
-use Rattle.upi_base.specs.declared.sent.Party.{Party}
-use Rattle.upi_base.specs.declared.sent.Party.TheVariants as party
-use Rattle.upi_base.specs.declared.sent.Body.{Body}
-use Rattle.upi_base.specs.declared.sent.Body.TheVariants as body
 use Rattle.upi_base.specs.declared.code.Leg.{Leg}
 use Rattle.upi_base.specs.declared.code.Leg.TheVariants as leg
 use Rattle.upi_base.specs.declared.code.Code.{Code}
-use Rattle.upi_base.specs.declared.code.Answer.{Answer}
-use Rattle.upi_base.specs.declared.code.Answer.TheVariants as answered
-use Rattle.upi_base.specs.declared.code.Outcome.{Outcome}
 use Rattle.upi_base.specs.declared.setup.SetupLine.{SetupLine}
-use Rattle.upi_base.specs.Lists.{when, pick, joined}
-use Rattle.upi_laws.specs.declared.event.Said.{Said}
+use Rattle.upi_base.specs.Lists.{when, joined}
 use Rattle.upi_laws.specs.declared.event.Said.TheVariants as said
 use Rattle.upi_laws.specs.declared.event.Event.{Event}
 use Rattle.upi_laws.specs.declared.event.Event.TheVariants as event
@@ -31,14 +18,14 @@ use Rattle.upi_laws.specs.declared.places.Decision.{Decision}
 use Rattle.upi_laws.specs.declared.places.Decision.TheVariants as decided
 use Rattle.upi_laws.specs.declared.places.LegEnd.{LegEnd}
 use Rattle.upi_laws.specs.declared.places.LegEnd.TheVariants as ended
-use Rattle.upi_laws.specs.History.{said_by, delivered, read_message, message_at, event_of, is_close, is_closed}
-use Rattle.upi_laws.specs.Places.{opens, opened, if_of, opening, due_answer, answers_in_time, decides_on, decides, decision, tells, ends_on, ends, due_debit, debit, due_credit, credit, cause_by, cause, reverses_on, reverses, reversal}
-use Rattle.upi_laws.specs.Outcomes.{outcome_by, outcome_of}
+use Rattle.upi_laws.specs.History.{event_of, is_closed}
+use Rattle.upi_laws.specs.Places.{opens, opened, if_of, opening, decides_on, decides, decision, tells, ends_on, ends, due_debit, debit, due_credit, credit, cause_by, cause, reverses_on, reverses, reversal}
+use Rattle.upi_laws.specs.Outcomes.{outcome_by}
 use Rattle.upi_laws.specs.Postings.{answer, arrives, reversal_due, post}
-use Rattle.upi_laws.specs.Laws.{IsOneMore, OneComes, OneEntry, OneEntryAdds, new, coming, AtMostOneComes, is_about, IsUntouched, OthersAreUntouched, ClosedIsUntouched, ClosedAnswersStand}
-use Rattle.upi_laws.proofs.Stays.{or_none, or_nothing, or_both_none, or_cases, guarded, none_some, opening_more}
-use Rattle.upi_laws.proofs.Facts.{decided_opened, due_debit_is, debit_approved, due_credit_is, credit_debited, cause_from, reversal_caused}
-use Rattle.upi_laws.proofs.Openings.{opens_is, IsOpened, opening_is_named}
+use Rattle.upi_laws.specs.Laws.{IsOneMore, OneComes, OneEntryAdds, new, AtMostOneComes, is_about, IsUntouched, OthersAreUntouched, ClosedIsUntouched, ClosedAnswersStand}
+use Rattle.upi_laws.proofs.Stays.{or_nothing, or_both_none, or_cases, guarded, none_some, opening_more}
+use Rattle.upi_laws.proofs.Facts.{decided_opened, debit_approved, due_credit_is, credit_debited, reversal_caused}
+use Rattle.upi_laws.proofs.Openings.{opens_is, opening_is_named}
 
 -- ---- nothing comes of nothing
 

@@ -1,19 +1,16 @@
 -- Sums over accounts, over openings and over banks.
-use Rattle.std.proofs.Common.{◌≡◌, ℕ, ◌+◌, ◌-◌, ◌*◌, ◌≤◌, Bool, true, false, cond, List, [], ◌∷◌, ◌++◌, Option, Some, None, refl, sym, ◌∙◌, ap, subst, inl, inr, ◌⊎◌, arith}
-use Rattle.std.specs.Prelude.{is_some, is_none, not, ◌&&◌, ◌||◌}
+use Rattle.std.proofs.Common.{◌≡◌, ℕ, ◌+◌, ◌*◌, ◌≤◌, Bool, true, false, cond, List, [], ◌∷◌, ◌++◌, Option, Some, None, refl, sym, ◌∙◌, ap, arith}
+use Rattle.std.specs.Prelude.{◌&&◌}
 use Rattle.std.specs.Option.{option_or, option_and_then}
-use Rattle.std.specs.List.{AllByRecursion, sum_by, count_by, list_any, flat_map}
-use Rattle.std.specs.Str.{bytes_eq}
+use Rattle.std.specs.List.{AllByRecursion, sum_by, count_by, flat_map}
 use Rattle.std.proofs.lemmas.List.Sums.{sum_by-cons, sum_by-append}
 use Rattle.std.proofs.lemmas.List.Concat.{flat_map-cons}
 use Rattle.std.proofs.lemmas.Slice.Eq.{bytes_eq-Decides}
-use Rattle.std.proofs.lemmas.Bool.{both_ways}
 use Rattle.upi_base.specs.declared.entry.Entry.{Entry}
 use Rattle.upi_base.specs.declared.message.PayReq.{PayReq}
 use Rattle.upi_base.specs.declared.code.Leg.{Leg}
 use Rattle.upi_base.specs.declared.code.Leg.TheVariants as leg
 use Rattle.upi_base.specs.declared.code.Answer.{Answer}
-use Rattle.upi_base.specs.declared.setup.AccountRef.{AccountRef}
 use Rattle.upi_base.specs.declared.setup.Account.{Account}
 use Rattle.upi_base.specs.declared.setup.SetupLine.{SetupLine}
 use Rattle.upi_base.specs.Lists.{when, pick, joined}
@@ -25,8 +22,8 @@ use Rattle.upi_laws.specs.Postings.{Answers, is_posted, is_account, posted_at, s
 use Rattle.upi_laws.specs.Settlement.{accounts}
 use Rattle.upi_laws.specs.Laws.{IsAllowed}
 use Rattle.upi_laws.proofs.Stays.{or_none, opening_more, is_some_has}
-use Rattle.upi_laws.proofs.Openings.{or_false, unfound, opens_found, opens_is}
-use Rattle.upi_laws.proofs.Setups.{tally, AddressAccount, address_account}
+use Rattle.upi_laws.proofs.Openings.{opens_found}
+use Rattle.upi_laws.proofs.Setups.{AddressAccount, address_account}
 
 -- ---- sums
 

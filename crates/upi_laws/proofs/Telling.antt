@@ -1,5 +1,5 @@
 -- What the latest entry tells, over all transactions.
-use Rattle.std.proofs.Common.{◌≡◌, ℕ, Bool, true, false, cond, List, [], ◌∷◌, ◌++◌, Option, Some, None, refl, sym, ◌∙◌, ap, subst}
+use Rattle.std.proofs.Common.{◌≡◌, ℕ, List, [], ◌∷◌, ◌++◌, Option, Some, refl, subst}
 use Rattle.std.specs.List.{AllByRecursion}
 use Rattle.std.specs.Str.{bytes_eq}
 use Rattle.std.proofs.lemmas.Slice.Eq.{bytes_eq-Decides}
@@ -12,15 +12,14 @@ use Rattle.upi_base.specs.declared.code.Reply.{Reply}
 use Rattle.upi_base.specs.declared.code.Reply.TheVariants as reply
 use Rattle.upi_base.specs.declared.setup.SetupLine.{SetupLine}
 use Rattle.upi_base.specs.Lists.{when}
-use Rattle.upi_laws.specs.declared.event.Said.{Said}
 use Rattle.upi_laws.specs.declared.event.Said.TheVariants as said
 use Rattle.upi_laws.specs.declared.event.Event.{Event}
 use Rattle.upi_laws.specs.declared.event.Event.TheVariants as event
 use Rattle.upi_laws.specs.History.{event_of}
 use Rattle.upi_laws.specs.Outcomes.{outcome_of}
 use Rattle.upi_laws.specs.Legal.{Legal}
-use Rattle.upi_laws.specs.Backed.{outcome_in, status_in, IsOfCheck, AllTell, EntryTells}
-use Rattle.upi_laws.specs.Sound.{TellsOutcome, StatusTells, LatestTells, OutcomesTold, LegalTells}
+use Rattle.upi_laws.specs.Backed.{outcome_in, status_in, IsOfCheck, AllTell}
+use Rattle.upi_laws.specs.Sound.{TellsOutcome, LatestTells, LegalTells}
 use Rattle.upi_laws.proofs.Told.{outcome_told}
 
 checked_is : (x : Option Outcome) (e : Event) → IsOfCheck (reply.Status x) e → (p : List ℕ) × (t : List ℕ) × (e ≡ event.Heard p (said.Check t))

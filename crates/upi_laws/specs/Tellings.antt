@@ -6,18 +6,21 @@ use Rattle.upi_base.specs.declared.entry.Entry.{Entry}
 use Rattle.upi_base.specs.declared.sent.Sent.{Sent}
 use Rattle.upi_base.specs.declared.sent.Body.{Body}
 use Rattle.upi_base.specs.declared.sent.Body.TheVariants as body
+use Rattle.upi_base.specs.declared.code.Code.{Code}
+use Rattle.upi_base.specs.declared.code.Leg.TheVariants as leg
 use Rattle.upi_base.specs.declared.code.Outcome.{Outcome}
 use Rattle.upi_base.specs.declared.setup.SetupLine.{SetupLine}
 use Rattle.upi_laws.specs.declared.event.Event.{Event}
 use Rattle.upi_laws.specs.declared.event.Event.TheVariants as event
+use Rattle.upi_laws.specs.declared.places.Opening.{Opening}
 use Rattle.upi_laws.specs.declared.places.Decision.{Decision}
 use Rattle.upi_laws.specs.declared.places.Decision.TheVariants as decided
 use Rattle.upi_laws.specs.declared.places.LegEnd.{LegEnd}
 use Rattle.upi_laws.specs.declared.places.LegEnd.TheVariants as ended
 use Rattle.upi_laws.specs.History.{sent, is_closed, event_of}
-use Rattle.upi_laws.specs.Places.{decision, debit, credit, reversal}
+use Rattle.upi_laws.specs.Places.{opening, decision, debit, credit, cause, reversal}
 use Rattle.upi_laws.specs.Outcomes.{outcome_of}
-use Rattle.upi_laws.specs.Dues.{confirms, is_due}
+use Rattle.upi_laws.specs.Dues.{orders, confirms, last_sent, due, is_due}
 use Rattle.upi_laws.specs.Legal.{Legal}
 
 -- the question's, the debit's, the credit's and the reversal's end that a transaction may have together
@@ -89,3 +92,11 @@ pub record OutcomeTellings (S : List SetupLine) (t : List ℕ) (h : List Entry) 
 
 abbrev pub AllOutcomeTellings : Type 0
 AllOutcomeTellings = (S : List SetupLine) (t : List ℕ) (h : List Entry) → Legal S h → OutcomeTellings S t h
+
+-- a reversal that is wanted was sent
+abbrev pub ReversalsAreSent : Type 0
+ReversalsAreSent = (S : List SetupLine) (t : List ℕ) (h : List Entry) (c : Code) → Legal S h → cause S t h ≡ Some c → (k : ℕ) × (last_sent (orders t leg.Reversal) h ≡ Some k)
+
+-- before a Close what is opened and has no outcome is due at a moment
+abbrev pub OpenAreDue : Type 0
+OpenAreDue = (S : List SetupLine) (t : List ℕ) (h : List Entry) (o : Opening) → Legal S h → is_closed h ≡ false → opening S t h ≡ Some o → outcome_of S t h ≡ None → (k : ℕ) × (due S t h ≡ Some k)

@@ -1,6 +1,6 @@
 //! The laws of histories, each as a function with an empty body: its contract is the law.
 ghost use Rattle.upi_laws.specs.Laws.{AllPlacesStay, OpeningsGrow, OutcomeStays, AllPlacesFollow, OpeningsAreFound, OpeningIsNamed, OpeningIsFirst, OpeningsAreAllowed, ShardsHaveRoom, OpeningsHaveRoom, RunningIsUncut, ClosedHaveOutcomes, OneEntryAdds, AtMostOneComes, OthersAreUntouched, ClosedIsUntouched, ClosedAnswersStand, LegalBefore, LegalAt, LegalMore, LegalBothWays, LegalForwardMore, OnlyArrivalsMove, ArrivedIsAnswered};
-ghost use Rattle.upi_laws.specs.Sound.{LegalTells, LegalPostsOnce};
+ghost use Rattle.upi_laws.specs.Sound.{LegalTells, LegalPostsOnce, LegalApproves, LegalKeepsMoney, LegalClosesSound, LegalIsSound};
 
 /// A place that was found stays found, whatever comes later.
 pub fn places_stay()
@@ -132,4 +132,27 @@ pub fn legal_tells()
 /// first was, and none but the first moves money.
 pub fn legal_posts_once()
     ensures { LegalPostsOnce }
+{}
+
+/// In a legal history no COLLECT is debited without its payer's approval, in time and of that
+/// amount.
+pub fn collects_approved()
+    ensures { LegalApproves }
+{}
+
+/// In a legal history over an accepted setup all balances and the money in flight are together what
+/// the accounts opened with.
+pub fn legal_keeps_money()
+    ensures { LegalKeepsMoney }
+{}
+
+/// Where a legal history has just closed, every transaction has its outcome and its legs moved
+/// accordingly, the nets of the banks even out, and each bank balances.
+pub fn legal_closes_sound()
+    ensures { LegalClosesSound }
+{}
+
+/// Every legal history over an accepted setup is sound.
+pub fn legal_is_sound()
+    ensures { LegalIsSound }
 {}
