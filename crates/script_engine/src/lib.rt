@@ -1,6 +1,9 @@
 //! Scripts: what their lines say, the history that they make, and the text that they write.
 #![tactic(auto)]
 
+pub mod call;
+pub mod engine;
 pub mod line;
 
+pub use engine::{Engine, EngineFault};
 pub use line::ScriptRead;

@@ -1,5 +1,7 @@
 //! What a line of a script says.
-ghost use Rattle.std.specs.Prelude.{◌≡◌, IfOk};
+ghost use Rattle.std.specs.Prelude.{◌≡◌, IfOk, List, true};
+ghost use Rattle.upi_base.specs.Setup.{has_psp};
+ghost use Rattle.script_engine.specs.Kept.{IsKnown};
 ghost use Rattle.std.specs.Str.{bytes_eq, is_utf8 as is_utf8_of};
 ghost use Rattle.upi_text.specs.Words.{words, number_of};
 ghost use Rattle.script_engine.specs.Script.{unbuilt as unbuilt_of, is_yes as is_yes_of, is_built_line as is_built_line_of, is_built as is_built_of, setup_part as setup_part_of, command_of as command_of_word, sender as sender_of, sent_line as sent_line_of, send_line as send_line_of, in_thousand as in_thousand_of, run_line as run_line_of, close_line as close_line_of, commanded as commanded_of, call_part as call_part_of};
@@ -91,7 +93,8 @@ fn is_built(read: &SetupRead) -> bool
 
 /// What a line says before OPEN was read.
 pub(crate) fn setup_part(setup: &SetupText, line: &[u8]) -> Result<ScriptRead, Refusal>
-    ensures { result ≡ setup_part_of setup.now line.now }
+    ensures line { result ≡ setup_part_of setup.now line.now }
+    ensures known { (S : List SetupLine) → IfOk result (IsKnown S) }
 {
     let read = setup.read(line)?;
     if is_built(&read) {
@@ -127,7 +130,8 @@ fn command_of(word: &[u8]) -> Option<Command>
 
 /// The PSP of a SEND line.
 fn sender(lines: &[SetupLine], line: &[u8]) -> Result<PspName, Refusal>
-    ensures { result ≡ sender_of lines.now (words line.now) }
+    ensures sender { result ≡ sender_of lines.now (words line.now) }
+    ensures known { IfOk result (λ psp. has_psp lines.now psp ≡ true) }
 {
     match PspName::read(word(line, 1)) {
         None => Err(Refusal::value(2)),
@@ -145,7 +149,8 @@ fn sender(lines: &[SetupLine], line: &[u8]) -> Result<PspName, Refusal>
 }
 
 fn sent_line(sends: u32, psp: PspName, message: Option<Message>) -> Result<ScriptRead, Refusal>
-    ensures { result ≡ sent_line_of sends psp message }
+    ensures line { result ≡ sent_line_of sends psp message }
+    ensures known { (S : List SetupLine) → has_psp S psp ≡ true → IfOk result (IsKnown S) }
 {
     match message {
         None => Err(unbuilt()),
@@ -166,7 +171,8 @@ fn send_line(
     sends: u32,
     line: &[u8],
 ) -> Result<Result<ScriptRead, Refusal>, NoMemory>
-    ensures { IfOk result (λ r. r ≡ send_line_of lines.now sends line.now) }
+    ensures line { IfOk result (λ r. r ≡ send_line_of lines.now sends line.now) }
+    ensures known { IfOk result (λ r. IfOk r (IsKnown lines.now)) }
 {
     let text = from_word(line, 2);
     if text.len() == 0 {
@@ -199,7 +205,8 @@ fn in_thousand(text: &[u8]) -> Option<u64>
 
 #[tactic(auto, unfolding(crate::specs::Script::run_line))]
 fn run_line(line: &[u8]) -> Result<ScriptRead, Refusal>
-    ensures { result ≡ run_line_of (words line.now) }
+    ensures line { result ≡ run_line_of (words line.now) }
+    ensures known { (S : List SetupLine) → IfOk result (IsKnown S) }
 {
     let count = word_count(line);
     if count == 1 {
@@ -219,7 +226,8 @@ fn run_line(line: &[u8]) -> Result<ScriptRead, Refusal>
 
 #[tactic(auto, unfolding(crate::specs::Script::close_line))]
 fn close_line(closes: bool, line: &[u8]) -> Result<ScriptRead, Refusal>
-    ensures { result ≡ close_line_of closes (words line.now) }
+    ensures line { result ≡ close_line_of closes (words line.now) }
+    ensures known { (S : List SetupLine) → IfOk result (IsKnown S) }
 {
     if word_count(line) != 1 {
         Err(Refusal::other_fields())
@@ -248,7 +256,8 @@ fn commanded(
     line: &[u8],
     command: Option<Command>,
 ) -> Result<Result<ScriptRead, Refusal>, NoMemory>
-    ensures { IfOk result (λ r. r ≡ commanded_of lines.now sends closes line.now command) }
+    ensures line { IfOk result (λ r. r ≡ commanded_of lines.now sends closes line.now command) }
+    ensures known { IfOk result (λ r. IfOk r (IsKnown lines.now)) }
 {
     match command {
         None => Ok(Err(Refusal::no_command())),
@@ -267,7 +276,8 @@ pub(crate) fn call_part(
     closes: bool,
     line: &[u8],
 ) -> Result<Result<ScriptRead, Refusal>, NoMemory>
-    ensures { IfOk result (λ r. r ≡ call_part_of lines.now sends closes line.now) }
+    ensures line { IfOk result (λ r. r ≡ call_part_of lines.now sends closes line.now) }
+    ensures known { IfOk result (λ r. IfOk r (IsKnown lines.now)) }
 {
     if is_skipped(line) {
         return Ok(Ok(ScriptRead::Setup(SetupRead::Skipped)));
