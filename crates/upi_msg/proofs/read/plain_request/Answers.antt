@@ -1,4 +1,4 @@
-use Rattle.std.proofs.Common.{◌≡◌, ◌++◌, List, ℕ, ap, sym, ◌∙◌}
+use Rattle.std.proofs.Common.{◌++◌, List, ℕ, ap, ◌∙◌}
 use Rattle.serde_json.specs.View.{view}
 use Rattle.upi_base.specs.declared.message.Message.TheVariants as message
 use Rattle.upi_msg.specs.Tree.{message_text}
