@@ -1,10 +1,10 @@
 -- The written form of a plain payment is read back.
-use Rattle.std.proofs.Common.{true≢false, false, unwrap_or, ◌≡◌, ◌≢◌, ◌≤◌, ℕ, true, List, [], ◌∷◌, ◌++◌, append-nil, codes, option_map, Option, None, Some, refl, sym, ap, ◌∙◌, subst, IsUtf8, arith, rules}
+use Rattle.std.proofs.Common.{Bool, if◌then◌else◌, true≢false, false, unwrap_or, ◌≡◌, ◌≢◌, ◌≤◌, ℕ, true, List, [], ◌∷◌, ◌++◌, append-nil, codes, Option, None, Some, refl, sym, ap, ◌∙◌, subst, IsUtf8, arith, rules}
 use Rattle.std.specs.Option.{option_and_then}
-use Rattle.std.specs.Str.{bytes_eq}
+use Rattle.std.specs.Str.{bytes_eq, is_utf8}
 use Rattle.std.proofs.lemmas.Option.{none-some}
 use Rattle.std.proofs.lemmas.Slice.Eq.{bytes_eq-Decides}
-use Rattle.std.proofs.lemmas.Str.{IsUtf8-append, IsUtf8-nil}
+use Rattle.std.proofs.lemmas.Str.{IsUtf8-append, IsUtf8-nil, IsUtf8-from_is_utf8, is_utf8-from_IsUtf8}
 use Rattle.json.specs.Tree as tree
 use Rattle.json.specs.Token.{Token}
 use Rattle.json.specs.Lex.{tokens}
@@ -18,16 +18,16 @@ use Rattle.serde_json.specs.Read.{read, of_json}
 use Rattle.serde_json.specs.Written.{outline, compact_text}
 use Rattle.serde_json.proofs.Texts.{print-outline}
 use Rattle.upi_base.specs.Lists.{when}
-use Rattle.upi_base.specs.Texts.{fits, is_name, is_address, is_msg_id, is_org_id, is_txn_id, is_addr}
-use Rattle.upi_base.specs.Money.{paise_of, paise_text, max_paise}
-use Rattle.upi_base.specs.Time.{moment_of, moment_text, max_moment}
+use Rattle.upi_base.specs.Texts.{fits, is_name, is_txn_id, is_addr}
+use Rattle.upi_base.specs.Money.{paise_text, max_paise}
+use Rattle.upi_base.specs.Time.{moment_text}
 use Rattle.upi_base.proofs.Again.{paise_again, moment_again}
 use Rattle.upi_base.specs.declared.code.Kind.TheVariants as kind
 use Rattle.upi_base.specs.declared.message.Head.{Head}
 use Rattle.upi_base.specs.declared.message.PayReq.{PayReq}
 use Rattle.upi_base.specs.declared.message.Message.TheVariants as message
-use Rattle.upi_msg.specs.Tree.{only, head_tree, amount_tree, payer_tree, payee_tree, payees_tree, payment_tree, pay_tree, message_tree, message_text}
-use Rattle.upi_msg.specs.Plain.{IsPlain, IsTyped, IsTypedHead, small_at, plain_head, plain_payee, plain_amount, plain_of, plain_in, if_written, IsOther, PlainReadsBack}
+use Rattle.upi_msg.specs.Tree.{only, head_tree, amount_tree, payer_tree, payee_tree, payment_tree, pay_tree, message_tree, message_text}
+use Rattle.upi_msg.specs.Plain.{IsPlain, IsTyped, IsTypedHead, small_at, plain_head, plain_payee, plain_amount, plain_of, if_written, plain_in, ◌>>=◌, IsOther, PlainReadsBack}
 use Rattle.upi_msg.proofs.Pieces.{glue}
 use Rattle.upi_msg.proofs.Parts.{head_parts, head_text, amount_parts, amount_text, payer_parts, payer_text, payee_parts, payee_text, payment_parts, payment_text, pay_parts, pay_text}
 use Rattle.upi_msg.proofs.Clear.{utf8_clear, clear_name, clear_address, clear_paise, clear_moment}
@@ -245,6 +245,30 @@ no_match text d q found members other r p t e =
     let same : Some q ≡ Some r = members ∙ fields_in text d r found p t e in
     other (ap (λ (o : Option PayReq). message_text (message.Pay (unwrap_or o q))) same ∙ e)
 
+-- ---- what is read
+
+found_in : (text : List ℕ) (d : Data) → IsUtf8 text → read text ≡ Some d → plain_in text ≡ (plain_of d >>= if_written text)
+found_in text d u found =
+    ap (λ (b : Bool). if b then (read text >>= plain_of >>= if_written text) else None) (is_utf8-from_IsUtf8 text u)
+    ∙ ap (λ (o : Option Data). o >>= plain_of >>= if_written text) found
+
+pub none_without_tree : (text : List ℕ) → (IsUtf8 text → read text ≡ None) → None ≡ plain_in text
+none_without_tree text h = go (is_utf8 text) refl
+  where
+    go : (b : Bool) → is_utf8 text ≡ b → None ≡ (if b then (read text >>= plain_of >>= if_written text) else None)
+    go false e = refl
+    go true e = sym (ap (λ (o : Option Data). o >>= plain_of >>= if_written text) (h (IsUtf8-from_is_utf8 text e)))
+
+pub none_without_members : (text : List ℕ) (d : Data) → IsUtf8 text → read text ≡ Some d → None ≡ plain_of d → None ≡ plain_in text
+none_without_members text d u found none = ap (λ (o : Option PayReq). o >>= if_written text) none ∙ sym (found_in text d u found)
+
+-- what stands where the payment was written again, and compared
+pub compared : (text : List ℕ) (d : Data) (q : PayReq) (written : List ℕ) (b : Bool) → IsUtf8 text → read text ≡ Some d → Some q ≡ plain_of d → written ≡ message_text (message.Pay q) → b ≡ bytes_eq written text → when b q ≡ plain_in text
+compared text d q written b u found members same e =
+    ap (λ (c : Bool). when c q) (e ∙ ap (λ (l : List ℕ). bytes_eq l text) same)
+    ∙ ap (λ (o : Option PayReq). o >>= if_written text) members
+    ∙ sym (found_in text d u found)
+
 -- another text stands there than was written
 pub differs : (x y t : List ℕ) → x ≡ t → false ≡ bytes_eq x y → t ≢ y
 differs x y t s e same = true≢false (sym ((bytes_eq-Decides x y).1 (s ∙ same)) ∙ sym e)
@@ -254,6 +278,6 @@ differs x y t s e same = true≢false (sym ((bytes_eq-Decides x y).1 (s ∙ same
 pub plain_reads_back : PlainReadsBack
 plain_reads_back r p t =
     let x : List ℕ = message_text (message.Pay r) in
-    ap (λ (o : Option Data). option_and_then (if_written x) (option_and_then plain_of o)) (plain_again r p)
+    found_in x (message_tree (message.Pay r)) (plain_utf8 r p t) (plain_again r p)
     ∙ ap (option_and_then (if_written x)) (plain_fields r p t)
-    ∙ ap (λ b. when b r) ((bytes_eq-Decides x x).1 refl)
+    ∙ ap (λ (b : Bool). when b r) ((bytes_eq-Decides x x).1 refl)

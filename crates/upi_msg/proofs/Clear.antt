@@ -1,20 +1,19 @@
 -- Bytes that stand in a JSON string as they are, and which texts have no others.
-use Rattle.std.proofs.Common.{mod-lt, pos, codes, decimal, ◌≡◌, ◌≢◌, ℕ, zero, suc, ◌+◌, ◌/◌, ◌%◌, ◌<◌, ◌≤◌, ◌==◌, Bool, true, false, ◌&&◌, not, nat_le, nat_lt, if◌then◌else◌, List, [], ◌∷◌, ◌++◌, length, get_or, take, drop, refl, sym, ap, ap₂, ◌∙◌, subst, IsUtf8, arith, inl, inr}
+use Rattle.std.proofs.Common.{mod-lt, pos, codes, decimal, ◌≡◌, ◌≢◌, ℕ, zero, suc, ◌+◌, ◌/◌, ◌%◌, ◌<◌, ◌≤◌, ◌==◌, Bool, true, false, ◌&&◌, not, nat_le, nat_lt, if◌then◌else◌, List, [], ◌∷◌, ◌++◌, length, get_or, drop, refl, sym, ap, ap₂, ◌∙◌, subst, IsUtf8, arith}
 use Rattle.std.specs.List.{list_all, prefix_len}
 use Rattle.std.specs.Fmt.{digit_glyph, digits_onto, digits}
-use Rattle.std.proofs.lemmas.Bool.{and_parts, leb-true, ltb-true}
+use Rattle.std.proofs.lemmas.Bool.{and_parts}
 use Rattle.std.proofs.lemmas.Bool.Decides.{nat_tests}
 use Rattle.std.proofs.lemmas.List.Folds.{list_all-append}
 use Rattle.std.proofs.lemmas.List.Sums.{prefix_len_passes}
 use Rattle.json.specs.Print.{escape_byte, escape, quoted}
 use Rattle.json.proofs.Printed.Strings.{escape_byte_plain}
 use Rattle.json.proofs.Printed.Utf8.{are_ascii, IsUtf8-are_ascii}
-use Rattle.jiff_core.specs.Calendar.{days_in_month}
 use Rattle.jiff_core.proofs.CalendarLemmas.{days_in_month_bounds}
-use Rattle.upi_base.specs.Texts.{is_name_byte, is_psp_byte, is_psp, is_run, is_name, is_address, fits}
+use Rattle.upi_base.specs.Texts.{is_name_byte, is_psp_byte, is_psp, is_name, is_address, fits}
 use Rattle.upi_base.specs.Money.{pair_text, paise_text}
 use Rattle.upi_base.specs.Time.{Civil, civil_from, date_text, clock_text, local_second, moment_text, max_moment}
-use Rattle.upi_base.proofs.Civils.{IsNth, civil_nth, year_small}
+use Rattle.upi_base.proofs.Civils.{civil_nth, year_small}
 
 -- ASCII, no control, no quotation mark and no backslash
 abbrev pub is_clear : ℕ → Bool

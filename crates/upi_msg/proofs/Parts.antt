@@ -1,9 +1,9 @@
 -- The parts of each written group, and that they make its text.
-use Rattle.std.proofs.Common.{Option, codes, option_map, decimal, ◌≡◌, ℕ, false, true, List, [], ◌∷◌, ◌++◌, refl, sym, ap, ◌∙◌, append_assoc}
+use Rattle.std.proofs.Common.{Option, codes, option_map, decimal, ◌≡◌, ℕ, List, [], ◌∷◌, ◌++◌, refl, sym, ap, ◌∙◌, append_assoc}
 use Rattle.std.proofs.lemmas.List.Concat.{flat_map-append}
 use Rattle.json.specs.Print.{escape_byte, escape, quoted}
-use Rattle.serde_json.specs.Data.{Data, string, array, object, no_items, item, Members, member, no_members}
-use Rattle.serde_json.specs.Written.{compact_text, members_text}
+use Rattle.serde_json.specs.Data.{Data, string, Members, member, no_members}
+use Rattle.serde_json.specs.Written.{compact_text}
 use Rattle.upi_base.specs.Money.{paise_text}
 use Rattle.upi_base.specs.Time.{moment_text}
 use Rattle.upi_base.specs.declared.setup.AccountRef.{AccountRef}
@@ -12,9 +12,7 @@ use Rattle.upi_base.specs.declared.message.PayReq.{PayReq}
 use Rattle.upi_base.specs.declared.message.AuthResp.{AuthResp}
 use Rattle.upi_base.specs.declared.message.Chk.{Chk}
 use Rattle.upi_base.specs.declared.message.ConfResp.{ConfResp}
-use Rattle.upi_base.specs.declared.message.Api.{Api}
-use Rattle.upi_base.specs.declared.message.Api.TheVariants as api
-use Rattle.upi_msg.specs.Tree.{maybe, only, head_tree, amount_tree, account_tree, rules_tree, kind_text, payer_tree, payee_tree, payees_tree, payment_tree, pay_tree, result_text, account_payees_tree, answer_payer_tree, resp_tree, id_tree, answer_tree, check_tree, confirmed_tree, api_text}
+use Rattle.upi_msg.specs.Tree.{maybe, only, head_tree, amount_tree, account_tree, rules_tree, kind_text, payer_tree, payee_tree, payment_tree, pay_tree, result_text, account_payees_tree, answer_payer_tree, resp_tree, id_tree, answer_tree, check_tree, confirmed_tree}
 use Rattle.upi_msg.specs.Pieces.{front_text, later_text}
 use Rattle.upi_msg.proofs.Pieces.{glue, front, later}
 

@@ -1,11 +1,10 @@
 -- Joining parts of a written message.
-use Rattle.std.proofs.Common.{codes, option_map, ◌≡◌, ℕ, zero, suc, ◌+◌, ◌<◌, true, false, List, [], ◌∷◌, ◌++◌, length, get_or, drop, Option, Some, None, refl, sym, ap, ◌∙◌, append_assoc, append-nil, arith}
+use Rattle.std.proofs.Common.{◌≡◌, ℕ, ◌+◌, ◌<◌, true, false, List, [], ◌∷◌, ◌++◌, length, get_or, drop, Option, Some, None, refl, sym, ap, ◌∙◌, append_assoc, append-nil}
 use Rattle.std.proofs.lemmas.List.{drop_more}
 use Rattle.json.specs.Print.{escape_byte, escape, quoted}
-use Rattle.serde_json.specs.Data.{Data, string, Members, member, no_members, object}
+use Rattle.serde_json.specs.Data.{Data, Members, member}
 use Rattle.serde_json.specs.Written.{compact_text, members_text}
-use Rattle.upi_base.specs.declared.message.PayReq.{PayReq}
-use Rattle.upi_msg.specs.Tree.{maybe, account_tree, amount_tree, rules_tree, payer_tree, payee_tree, payment_tree, kind_text}
+use Rattle.upi_msg.specs.Tree.{maybe}
 use Rattle.upi_msg.specs.Pieces.{front_text, later_text}
 
 pub escape-drop : (o t : List ℕ) (text : List ℕ) (i : ℕ) → i < length text → o ++ escape (drop i text) ≡ t → (o ++ escape_byte (get_or text i 0)) ++ escape (drop (i + 1) text) ≡ t

@@ -1,6 +1,6 @@
 -- Reading back the written form of a plain payment.
-use Rattle.std.specs.Prelude.{◌≡◌, ◌≢◌, ◌≤◌, ℕ, Bool, true, List, codes, Option, Some, None, option_and_then}
-use Rattle.std.specs.Str.{bytes_eq}
+use Rattle.std.specs.Prelude.{◌≡◌, ◌≢◌, ◌≤◌, ℕ, Bool, true, List, codes, Option, Some, None, option_and_then, if◌then◌else◌}
+use Rattle.std.specs.Str.{bytes_eq, is_utf8}
 use Rattle.serde_json.specs.Data.{Data}
 use Rattle.serde_json.specs.Find.{get, at, as_str}
 use Rattle.serde_json.specs.Read.{read}
@@ -88,7 +88,15 @@ if_written text r = when (bytes_eq (message_text (message.Pay r)) text) r
 
 -- the plain payment of which this is the written form
 abbrev pub plain_in : List ℕ → Option PayReq
-plain_in text = read text >>= plain_of >>= if_written text
+plain_in text = if is_utf8 text then (read text >>= plain_of >>= if_written text) else None
+
+-- the payment of a message, if it is one
+abbrev pub payment : Message → Option PayReq
+payment (message.Pay r) = Some r
+payment (message.AuthAnswer a) = None
+payment (message.Check k) = None
+payment (message.Confirmed k) = None
+payment (message.Foreign name head) = None
 
 -- bytes that are the written form of no plain payment
 abbrev pub IsOther : List ℕ → Type 0

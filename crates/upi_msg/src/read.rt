@@ -4,7 +4,7 @@ ghost use Rattle.serde_json.specs.Read.{read as read_tree};
 ghost use Rattle.serde_json.specs.View.{view};
 ghost use Rattle.upi_base.specs.Texts.{fits};
 ghost use Rattle.upi_msg.specs.Tree.{message_text};
-ghost use Rattle.upi_msg.specs.Plain.{IsPlain, IsTyped, IsPlainPay, text_at, small_at, plain_head, plain_payee, plain_amount, plain_of, plain_in, IsOther, PlainReadsBack};
+ghost use Rattle.upi_msg.specs.Plain.{IsPlain, IsTyped, IsPlainPay, text_at, small_at, plain_head, plain_payee, plain_amount, plain_of, plain_in, payment, IsOther, PlainReadsBack};
 
 use crate::write::push_pay;
 use serde_json::Value;
@@ -108,7 +108,8 @@ fn plain_of(value: &Value) -> Option<PayReq>
 
 // The plain payment of which these bytes are the written form, if they are.
 fn plain_request(alloc: Global, text: &[u8]) -> Result<Option<PayReq>, NoMemory>
-    ensures { IfOk result (λ o. MatchOption o (IsOther text.now)
+    ensures read { IfOk result (λ o. o ≡ plain_in text.now) }
+    ensures written { IfOk result (λ o. MatchOption o (IsOther text.now)
         (λ r. IsPlain r × (message_text (Message.Pay r) ≡ text.now))) }
 {
     let Some(value) = tree_of(alloc, text)? else {
@@ -131,7 +132,8 @@ fn plain_request(alloc: Global, text: &[u8]) -> Result<Option<PayReq>, NoMemory>
 /// no JSON, that they give more, or that they are written otherwise. It fails only for want of
 /// memory.
 pub fn read_plain(alloc: Global, text: &[u8]) -> Result<Option<Message>, NoMemory>
-    ensures { IfOk result (λ o. MatchOption o (IsOther text.now)
+    ensures read { IfOk result (λ o. option_and_then payment o ≡ plain_in text.now) }
+    ensures written { IfOk result (λ o. MatchOption o (IsOther text.now)
         (λ m. IsPlainPay m × (message_text m ≡ text.now))) }
 {
     match plain_request(alloc, text)? {

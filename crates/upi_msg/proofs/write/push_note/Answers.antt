@@ -1,5 +1,5 @@
 use Rattle.json.specs.Print.{escape_byte}
-use Rattle.std.proofs.Common.{append_assoc, refl}
+use Rattle.std.proofs.Common.{refl}
 use Rattle.upi_msg.proofs.write.push_note.Goals as goal
 
 pub returns-in_ok-push_text : goal.returns-in_ok-push_text

@@ -1,4 +1,4 @@
-use Rattle.std.proofs.Common.{List, ℕ, [], ◌∷◌, refl, arith}
+use Rattle.std.proofs.Common.{List, ℕ, [], ◌∷◌, refl}
 use Rattle.upi_base.specs.Money.{paise_text}
 use Rattle.upi_msg.proofs.Pieces.{grows}
 use Rattle.upi_msg.proofs.Clear.{quoted_clear, clear_paise}

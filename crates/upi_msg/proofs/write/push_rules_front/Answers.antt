@@ -1,4 +1,4 @@
-use Rattle.std.proofs.Common.{codes, ◌≡◌, ◌++◌, ◌∙◌, refl, sym}
+use Rattle.std.proofs.Common.{refl}
 use Rattle.json.specs.Print.{escape_byte}
 use Rattle.upi_msg.proofs.Pieces.{grows}
 use Rattle.upi_msg.proofs.Parts.{rules_parts, rules_text}
