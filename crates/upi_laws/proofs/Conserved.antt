@@ -35,7 +35,8 @@ use Rattle.upi_laws.proofs.Openings.{opens_found, openings_are_allowed}
 use Rattle.upi_laws.proofs.Steps.{if_false}
 use Rattle.upi_laws.proofs.Once.{arrives_is, total_joined, unopened_unanswered}
 use Rattle.upi_laws.proofs.Legs.{posted_is, returned_taken, given_taken, given_unreversed}
-use Rattle.upi_laws.proofs.Setups.{same_account_is, accounts_found, named_all}
+use Rattle.upi_laws.proofs.Setups.{accounts_found, named_found}
+use Rattle.upi_base.proofs.Setups.{same_account_is}
 use Rattle.upi_laws.proofs.Sums.{sum_add, sum_same, sum_all, sum_le, of_opening, sum_at, counts, moves_at, totals}
 
 -- ---- one name, one account
@@ -48,7 +49,7 @@ named_once : (S : List SetupLine) (xs : List Account) → is_setup S ≡ true �
 named_once S [] setup p = tt
 named_once S (a ∷ xs) setup p = (
   λ addr b at same. option_and_then_some (λ (l : Listing). account_named S l.ac) (listing_at S addr) b at (λ l _ named.
-      let own = named_all (λ (x : Account). account_named S x.ac ≡ Some x) S l.ac b (accounts_found S setup) named in
+      let own = named_found S l.ac b named in
       some_same b a (sym own.1 ∙ (ap (account_named S) (same_account_is b.ac a.ac same) ∙ p.0))),
   named_once S xs setup p.1,
 )
