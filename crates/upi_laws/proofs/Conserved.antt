@@ -65,13 +65,13 @@ share_grows true (Some answered.Posted) p n = omega arith
 share_grows true (Some (answered.Declined c)) p n = omega arith
 share_grows true None p n = omega arith
 
-total_grows : (S : List SetupLine) (e : Entry) (h : List Entry) (ac : AccountRef) (l : Leg) (os : List Opening) → total S os (answer S h) ac l ≤ total S os (answer S (e ∷ h)) ac l
+pub total_grows : (S : List SetupLine) (e : Entry) (h : List Entry) (ac : AccountRef) (l : Leg) (os : List Opening) → total S os (answer S h) ac l ≤ total S os (answer S (e ∷ h)) ac l
 total_grows S e h ac l os =
     sum_le (λ (o : Opening). share S ac l (answer S h o.terms.txn l) o.terms) (λ (o : Opening). share S ac l (answer S (e ∷ h) o.terms.txn l) o.terms)
     (λ o. share_grows (is_account ac (account_at S (posted_at l o.terms))) (answer S h o.terms.txn l) _ o.terms.amount) os
 
 -- a payment that is opened has moved nothing, this entry included
-total_here : (S : List SetupLine) (e : Entry) (h : List Entry) (ac : AccountRef) (l : Leg) → total S (opened S (e ∷ h)) (answer S (e ∷ h)) ac l ≡ total S (opened S h) (answer S (e ∷ h)) ac l
+pub total_here : (S : List SetupLine) (e : Entry) (h : List Entry) (ac : AccountRef) (l : Leg) → total S (opened S (e ∷ h)) (answer S (e ∷ h)) ac l ≡ total S (opened S h) (answer S (e ∷ h)) ac l
 total_here S e h ac l =
     total_joined S (answer S (e ∷ h)) ac l (opens S (opened S h) (is_closed h) (event_of h e.call) e.at) (opened S h) (λ q is.
     let none = (opens_found S e h q is).0 in

@@ -15,7 +15,7 @@ use Rattle.upi_base.specs.declared.setup.Account.{Account}
 use Rattle.upi_base.specs.declared.setup.Listing.{Listing}
 use Rattle.upi_base.specs.declared.setup.SetupLine.{SetupLine}
 use Rattle.upi_base.specs.declared.setup.SetupLine.TheVariants as line
-use Rattle.upi_base.proofs.Setups.{same_account_is, account_name, accepted_are_sound}
+use Rattle.upi_base.proofs.Setups.{kept_by_setup, same_account_is, account_name, accepted_are_sound}
 use Rattle.upi_base.specs.Setup.{accounts as setup_accounts, IsNamed, same_account, is_bank_line, names_bank, has_bank, account_named, listing_at, account_at, bank_fault, setup_fault, accepts_from, is_setup}
 use Rattle.upi_laws.specs.Settlement.{accounts, banks}
 use Rattle.upi_laws.proofs.Stays.{some_same}
@@ -39,22 +39,6 @@ any_append f (x ∷ xs) ys = ap (λ (b : Bool). f x || b) (any_append f xs ys) �
     or_or : (a b c : Bool) → (a || (b || c)) ≡ ((a || b) || c)
     or_or true b c = refl
     or_or false b c = refl
-
--- ---- what accepted lines keep
-
-module _ (P : List SetupLine → Type 0) (step : (S : List SetupLine) (l : SetupLine) → P S → setup_fault S l ≡ None → P (S ++ l ∷ [])) where
-  kept_from : (S ls : List SetupLine) → P S → accepts_from S ls ≡ true → P (S ++ ls)
-  kept_from S [] p e = subst P (sym (append-nil S)) p
-  kept_from S (l ∷ ls) p e =
-      let a = and_parts (is_none (setup_fault S l)) (accepts_from (S ++ l ∷ []) ls) e in
-      subst P (append_assoc S (l ∷ []) ls) (kept_from (S ++ l ∷ []) ls (step S l p (none_is (setup_fault S l) a.0)) a.1)
-    where
-      none_is : {X : Type 0} (o : Option X) → is_none o ≡ true → o ≡ None
-      none_is None e = refl
-      none_is (Some x) e = absurd cc
-
-  pub kept : P [] → (S : List SetupLine) → is_setup S ≡ true → P S
-  kept p S e = kept_from [] S p e
 
 otherwise : (b : Bool) (x : Why) (o : Option Why) → cond b (Some x) o ≡ None → (b ≡ false) × (o ≡ None)
 otherwise true x o e = absurd cc
@@ -114,7 +98,7 @@ bank_step S (line.Account ac opening no_debit no_credit) p e code = bank_still S
 bank_step S (line.Address addr ac policy) p e code = bank_still S (line.Address addr ac policy ∷ []) code refl refl (p code)
 
 pub banks_once : (S : List SetupLine) → is_setup S ≡ true → (code : List ℕ) → count_by (λ (b : List ℕ). bytes_eq b code) (banks S) ≡ tally (has_bank S code)
-banks_once S e = kept BanksOnce bank_step (λ code. refl) S e
+banks_once S e = kept_by_setup BanksOnce bank_step (λ code. refl) S e
 
 -- ---- the account of an address
 
