@@ -20,3 +20,4 @@ pub mod Conserved
 pub mod Settled
 pub mod Waits
 pub mod Bounded
+pub mod Posted
