@@ -1,40 +1,29 @@
 -- How high a balance may rise.
-use Rattle.std.proofs.Common.{◌≡◌, ℕ, ◌+◌, ◌-◌, ◌*◌, ◌≤◌, Bool, true, false, cond, List, [], ◌∷◌, ◌++◌, length, Option, Some, None, refl, sym, ◌∙◌, ap, subst, inl, inr, ◌⊎◌, arith}
+use Rattle.std.proofs.Common.{◌≡◌, ℕ, ◌+◌, ◌*◌, ◌≤◌, Bool, true, false, cond, List, [], ◌∷◌, length, Option, Some, None, refl, sym, ◌∙◌, ap, subst, inl, inr, arith}
 use Rattle.std.specs.Prelude.{◌&&◌, nat_lt}
-use Rattle.std.specs.Option.{option_or, option_and_then, option_map}
-use Rattle.std.specs.List.{AllByRecursion, sum_by}
-use Rattle.std.specs.Str.{bytes_eq}
+use Rattle.std.specs.Option.{option_map}
+use Rattle.std.specs.List.{AllByRecursion}
 use Rattle.std.proofs.lemmas.List.Sums.{sum_by-cons}
 use Rattle.std.proofs.lemmas.Option.{option_and_then_some}
-use Rattle.std.proofs.lemmas.Bool.{both_ways, false_from_ne_true}
 use Rattle.std.proofs.lemmas.Bool.Decides.{nat_tests}
-use Rattle.std.proofs.lemmas.Slice.Eq.{bytes_eq-Decides}
 use Rattle.upi_base.specs.declared.entry.Entry.{Entry}
 use Rattle.upi_base.specs.declared.message.PayReq.{PayReq}
 use Rattle.upi_base.specs.declared.code.Leg.{Leg}
 use Rattle.upi_base.specs.declared.code.Leg.TheVariants as leg
 use Rattle.upi_base.specs.declared.code.Code.TheVariants as code
-use Rattle.upi_base.specs.declared.code.Answer.{Answer}
 use Rattle.upi_base.specs.declared.code.Answer.TheVariants as answered
 use Rattle.upi_base.specs.declared.setup.AccountRef.{AccountRef}
 use Rattle.upi_base.specs.declared.setup.Account.{Account}
 use Rattle.upi_base.specs.declared.setup.SetupLine.{SetupLine}
-use Rattle.upi_base.specs.Setup.{same_account, account_at, is_setup}
-use Rattle.upi_laws.specs.declared.event.Event.{Event}
-use Rattle.upi_laws.specs.declared.event.Event.TheVariants as event
+use Rattle.upi_base.specs.Setup.{account_at}
 use Rattle.upi_laws.specs.declared.places.Opening.{Opening}
-use Rattle.upi_laws.specs.History.{is_closed, event_of}
-use Rattle.upi_laws.specs.Places.{has_id, opened, opening}
-use Rattle.upi_laws.specs.Postings.{Answers, is_posted, is_account, posted_at, share, total, balance_by, balance, post_credit, post_leg, post, arrives, reversal_due, answer}
+use Rattle.upi_laws.specs.Places.{opened, opening}
+use Rattle.upi_laws.specs.Postings.{Answers, is_posted, is_account, posted_at, share, total, balance_by, balance, post_credit, post_leg, post, answer}
 use Rattle.upi_laws.specs.Settlement.{accounts}
 use Rattle.upi_laws.specs.Laws.{IsAllowed, DebitsAreCovered, BalancesAreCapped, TotalsAreBounded}
-use Rattle.upi_laws.proofs.Stays.{or_cases, or_none, if_some, some_same}
+use Rattle.upi_laws.proofs.Stays.{some_same}
 use Rattle.upi_laws.proofs.Openings.{all_map, openings_are_allowed, openings_have_room}
-use Rattle.upi_laws.proofs.Steps.{if_false}
-use Rattle.upi_laws.proofs.Once.{arrives_is}
-use Rattle.upi_laws.proofs.Legs.{posted_is}
-use Rattle.upi_laws.proofs.Posted.{credit_forth, posts_one, OnePosts, NothingPosts, total_grows, total_here}
-use Rattle.upi_laws.proofs.Sums.{sum_add, sum_same, sum_le, of_opening, sum_at}
+use Rattle.upi_laws.proofs.Posted.{credit_forth, posts_one, OnePosts, total_grows, total_here}
 use Rattle.upi_laws.proofs.Conserved.{IsNamedOnce, accounts_named_once, all_covered}
 
 pub debits_are_covered : DebitsAreCovered

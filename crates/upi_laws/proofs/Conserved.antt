@@ -1,13 +1,10 @@
 -- Balances and money in flight keep their sum.
 use Rattle.std.proofs.Common.{◌≡◌, ℕ, ◌+◌, ◌-◌, ◌≤◌, Bool, true, false, cond, List, [], ◌∷◌, Option, Some, None, refl, sym, ◌∙◌, ap, subst, inl, inr, arith}
 use Rattle.std.specs.Prelude.{is_some, not, ◌&&◌, nat_lt}
-use Rattle.std.specs.Option.{option_or, option_and_then, option_map}
+use Rattle.std.specs.Option.{option_map}
 use Rattle.std.specs.List.{AllByRecursion, sum_by}
-use Rattle.std.specs.Str.{bytes_eq}
 use Rattle.std.proofs.lemmas.Option.{option_and_then_some}
-use Rattle.std.proofs.lemmas.Bool.{both_ways, false_from_ne_true}
 use Rattle.std.proofs.lemmas.Bool.Decides.{nat_tests}
-use Rattle.std.proofs.lemmas.Slice.Eq.{bytes_eq-Decides}
 use Rattle.upi_base.specs.declared.entry.Entry.{Entry}
 use Rattle.upi_base.specs.declared.message.PayReq.{PayReq}
 use Rattle.upi_base.specs.declared.code.Leg.{Leg}
@@ -15,30 +12,24 @@ use Rattle.upi_base.specs.declared.code.Leg.TheVariants as leg
 use Rattle.upi_base.specs.declared.code.Code.TheVariants as code
 use Rattle.upi_base.specs.declared.code.Answer.{Answer}
 use Rattle.upi_base.specs.declared.code.Answer.TheVariants as answered
-use Rattle.upi_base.specs.declared.setup.AccountRef.{AccountRef}
 use Rattle.upi_base.specs.declared.setup.Account.{Account}
 use Rattle.upi_base.specs.declared.setup.Listing.{Listing}
 use Rattle.upi_base.specs.declared.setup.SetupLine.{SetupLine}
 use Rattle.upi_base.specs.Setup.{same_account, account_named, listing_at, account_at, is_setup}
-use Rattle.upi_laws.specs.declared.event.Event.{Event}
-use Rattle.upi_laws.specs.declared.event.Event.TheVariants as event
 use Rattle.upi_laws.specs.declared.places.Opening.{Opening}
-use Rattle.upi_laws.specs.History.{is_closed, event_of}
-use Rattle.upi_laws.specs.Places.{has_id, opens, opened, opening}
-use Rattle.upi_laws.specs.Postings.{is_posted, is_account, posted_at, share, total, balance_by, balance, post_debit, post_leg, post, arrives, reversal_due, answer, in_flight, flight}
+use Rattle.upi_laws.specs.Places.{opened, opening}
+use Rattle.upi_laws.specs.Postings.{is_posted, is_account, total, balance_by, balance, post_debit, post_leg, post, answer, in_flight, flight}
 use Rattle.upi_laws.specs.Settlement.{accounts}
 use Rattle.upi_laws.specs.Legal.{Legal}
 use Rattle.upi_laws.specs.Laws.{IsAllowed}
 use Rattle.upi_laws.specs.Sound.{LegalKeepsMoney}
-use Rattle.upi_laws.proofs.Stays.{or_cases, or_none, if_some, some_same, is_some_has}
-use Rattle.upi_laws.proofs.Openings.{opens_found, openings_are_allowed}
-use Rattle.upi_laws.proofs.Steps.{if_false}
-use Rattle.upi_laws.proofs.Once.{arrives_is, total_joined, unopened_unanswered}
+use Rattle.upi_laws.proofs.Stays.{some_same, is_some_has}
+use Rattle.upi_laws.proofs.Openings.{openings_are_allowed}
 use Rattle.upi_laws.proofs.Legs.{posted_is, returned_taken, given_taken, given_unreversed}
 use Rattle.upi_laws.proofs.Setups.{accounts_found, named_found}
 use Rattle.upi_base.proofs.Setups.{same_account_is}
-use Rattle.upi_laws.proofs.Posted.{debit_forth, posts_one, OnePosts, NothingPosts, total_grows, total_here}
-use Rattle.upi_laws.proofs.Sums.{sum_add, sum_same, sum_all, sum_le, of_opening, sum_at, counts, moves_at, totals}
+use Rattle.upi_laws.proofs.Posted.{debit_forth, posts_one, total_grows, total_here}
+use Rattle.upi_laws.proofs.Sums.{sum_add, sum_all, counts, moves_at, totals}
 
 -- ---- one name, one account
 

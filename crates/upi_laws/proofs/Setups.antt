@@ -1,12 +1,11 @@
 -- What stands behind an address of an accepted setup.
 use Rattle.std.proofs.Common.{◌≡◌, ℕ, ◌+◌, Bool, true, false, cond, List, [], ◌∷◌, ◌++◌, Option, Some, None, refl, sym, ◌∙◌, ap, subst, arith}
-use Rattle.std.specs.Prelude.{is_none, ◌&&◌, ◌||◌, nat_le}
+use Rattle.std.specs.Prelude.{◌&&◌, ◌||◌, nat_le}
 use Rattle.std.specs.List.{AllByRecursion, list_any, count_by}
 use Rattle.std.specs.Str.{bytes_eq}
 use Rattle.std.proofs.lemmas.Option.{option_and_then_some}
-use Rattle.std.proofs.lemmas.Bool.{and_parts, both_ways}
+use Rattle.std.proofs.lemmas.Bool.{both_ways}
 use Rattle.std.proofs.lemmas.Slice.Eq.{bytes_eq-Decides}
-use Rattle.std.proofs.lemmas.List.{append-nil, append_assoc}
 use Rattle.std.proofs.lemmas.List.Sums.{sum_by-append}
 use Rattle.upi_base.specs.declared.fault.Why.{Why}
 use Rattle.upi_base.specs.declared.fault.Why.TheVariants as why
@@ -16,7 +15,7 @@ use Rattle.upi_base.specs.declared.setup.Listing.{Listing}
 use Rattle.upi_base.specs.declared.setup.SetupLine.{SetupLine}
 use Rattle.upi_base.specs.declared.setup.SetupLine.TheVariants as line
 use Rattle.upi_base.proofs.Setups.{kept_by_setup, same_account_is, account_name, accepted_are_sound}
-use Rattle.upi_base.specs.Setup.{accounts as setup_accounts, IsNamed, same_account, is_bank_line, names_bank, has_bank, account_named, listing_at, account_at, bank_fault, setup_fault, accepts_from, is_setup}
+use Rattle.upi_base.specs.Setup.{accounts as setup_accounts, IsNamed, same_account, is_bank_line, names_bank, has_bank, account_named, listing_at, account_at, bank_fault, setup_fault, is_setup}
 use Rattle.upi_laws.specs.Settlement.{accounts, banks}
 use Rattle.upi_laws.proofs.Stays.{some_same}
 
