@@ -1,11 +1,7 @@
 -- What stands behind each message of a legal history.
-use Rattle.std.proofs.Common.{◌≡◌, ◌≢◌, ℕ, ◌-◌, zero, suc, Bool, true, false, cond, List, [], ◌∷◌, ◌++◌, Option, Some, None, refl, sym, ◌∙◌, ap, subst}
-use Rattle.std.specs.Prelude.{is_some, is_none, not, ◌&&◌, ◌==◌, slice_get}
-use Rattle.std.specs.List.{AllByRecursion, list_any}
-use Rattle.std.specs.Option.{option_or, option_and_then}
-use Rattle.std.specs.Str.{bytes_eq}
-use Rattle.std.proofs.lemmas.Bool.{and_parts, not-true}
-use Rattle.std.proofs.lemmas.Option.{cond_some}
+use Rattle.std.proofs.Common.{◌≡◌, ℕ, ◌-◌, zero, suc, Bool, true, false, cond, List, [], ◌∷◌, ◌++◌, Option, Some, None, refl, sym, ◌∙◌, ap, subst}
+use Rattle.std.specs.Prelude.{is_some, ◌==◌, slice_get}
+use Rattle.std.specs.Option.{option_or}
 use Rattle.std.proofs.lemmas.Slice.Eq.{bytes_eq-Decides}
 use Rattle.upi_base.specs.declared.entry.Entry.{Entry}
 use Rattle.upi_base.specs.declared.entry.Call.{Call}
@@ -14,10 +10,8 @@ use Rattle.upi_base.specs.declared.message.PayReq.{PayReq}
 use Rattle.upi_base.specs.declared.sent.Sent.{Sent}
 use Rattle.upi_base.specs.declared.sent.AuthQuestion.{AuthQuestion}
 use Rattle.upi_base.specs.declared.sent.Party.{Party}
-use Rattle.upi_base.specs.declared.sent.Party.TheVariants as party
 use Rattle.upi_base.specs.declared.sent.Body.{Body}
 use Rattle.upi_base.specs.declared.sent.Body.TheVariants as body
-use Rattle.upi_base.specs.declared.code.Kind.{Kind}
 use Rattle.upi_base.specs.declared.code.Leg.{Leg}
 use Rattle.upi_base.specs.declared.code.Leg.TheVariants as leg
 use Rattle.upi_base.specs.declared.code.Code.{Code}
@@ -26,11 +20,9 @@ use Rattle.upi_base.specs.declared.code.Answer.{Answer}
 use Rattle.upi_base.specs.declared.code.Outcome.{Outcome}
 use Rattle.upi_base.specs.declared.code.Policy.{Policy}
 use Rattle.upi_base.specs.declared.code.Policy.TheVariants as policy
-use Rattle.upi_base.specs.declared.code.Reply.TheVariants as reply
 use Rattle.upi_base.specs.declared.setup.Account.{Account}
 use Rattle.upi_base.specs.declared.setup.Listing.{Listing}
 use Rattle.upi_base.specs.declared.setup.SetupLine.{SetupLine}
-use Rattle.upi_base.specs.Lists.{joined, pick}
 use Rattle.upi_base.specs.Setup.{account_at, listing_at}
 use Rattle.upi_laws.specs.declared.event.Said.{Said}
 use Rattle.upi_laws.specs.declared.event.Said.TheVariants as said
@@ -41,15 +33,15 @@ use Rattle.upi_laws.specs.declared.places.Decision.{Decision}
 use Rattle.upi_laws.specs.declared.places.Decision.TheVariants as decided
 use Rattle.upi_laws.specs.declared.places.LegEnd.{LegEnd}
 use Rattle.upi_laws.specs.declared.places.LegEnd.TheVariants as ended
-use Rattle.upi_laws.specs.History.{sent, message_at, is_closed, delivered, read_message, event_of, put}
-use Rattle.upi_laws.specs.Places.{side, asking, asked, has_id, if_of, same_leg, refusal, opens_said, opens_on, opened, opening, decides, decision, ends, due_debit, debit, due_credit, credit, cause_by, cause, reverses, reversal}
+use Rattle.upi_laws.specs.History.{sent, message_at, is_closed, delivered, read_message, event_of}
+use Rattle.upi_laws.specs.Places.{side, same_leg, opens_said, opens_on, opened, opening, decides, decision, ends, due_debit, debit, due_credit, credit, cause_by, cause, reverses, reversal}
 use Rattle.upi_laws.specs.Outcomes.{outcome_by, outcome_of}
 use Rattle.upi_laws.specs.Postings.{posted_at, answer}
 use Rattle.upi_laws.specs.Dues.{is_due}
 use Rattle.upi_laws.specs.Replies.{order_answer}
-use Rattle.upi_laws.specs.Sending.{question, order_at, order, confirm, outcome_messages, anew, sent_on_opening, sent_on_decision, sent_on_debit, sent_on_credit, sent_on_reversal, again, sent_again, sent_by_txn, sent_on_late, sent_on_event, bank_answer, model_word, model_answer_by, receiver_answer, answered_message, receiver_answers, sent_on_said, sent_on, sent_by}
+use Rattle.upi_laws.specs.Sending.{order_at, order, confirm, outcome_messages, anew, sent_on_opening, sent_on_decision, sent_on_debit, sent_on_credit, sent_on_reversal, again, sent_again, sent_by_txn, sent_on_late, sent_on_event, bank_answer, model_word, model_answer_by, receiver_answer, answered_message, receiver_answers, sent_on_said, sent_on, sent_by}
 use Rattle.upi_laws.specs.Legal.{Legal}
-use Rattle.upi_laws.specs.Backed.{IsQuestion, word_of, word_at, IsModelAnswer, OrderPlaced, IsOrder, IsResult, IsConfirmation, IsConfirmed, BackedBy, Backed, AllBacked, MessagesBacked, MessageBacked, BackedWhenSent}
+use Rattle.upi_laws.specs.Backed.{IsQuestion, word_of, word_at, OrderPlaced, BackedBy, Backed, AllBacked, MessagesBacked, MessageBacked, BackedWhenSent}
 use Rattle.upi_laws.proofs.Stays.{some_same, some_is, opening_stays_one, decision_stays, debit_stays, answer_stays}
 use Rattle.upi_laws.proofs.Facts.{cause_stays, cause_late, outcome_stays}
 use Rattle.upi_laws.proofs.Openings.{opening_is_named, opens_found}

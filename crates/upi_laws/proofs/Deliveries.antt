@@ -1,5 +1,5 @@
 -- What a legal history has of an order or an answer that arrives.
-use Rattle.std.proofs.Common.{◌≡◌, ◌≢◌, ℕ, ◌+◌, Bool, true, false, cond, List, [], ◌∷◌, ◌++◌, Option, Some, None, refl, sym, ◌∙◌, ap, subst, inl, inr, ◌⊎◌}
+use Rattle.std.proofs.Common.{◌≡◌, ℕ, ◌+◌, Bool, true, false, cond, List, [], ◌∷◌, Option, Some, None, refl, sym, ◌∙◌, ap, subst, inl, inr}
 use Rattle.std.specs.Prelude.{is_some, is_none, not, ◌&&◌, ◌||◌}
 use Rattle.std.specs.Option.{option_or, option_and_then, option_map}
 use Rattle.std.specs.Str.{bytes_eq}
@@ -9,7 +9,6 @@ use Rattle.std.proofs.lemmas.Slice.Eq.{bytes_eq-Decides}
 use Rattle.upi_base.specs.declared.entry.Entry.{Entry}
 use Rattle.upi_base.specs.declared.entry.Call.{Call}
 use Rattle.upi_base.specs.declared.entry.Call.TheVariants as call
-use Rattle.upi_base.specs.declared.message.Input.{Input}
 use Rattle.upi_base.specs.declared.message.Input.TheVariants as input
 use Rattle.upi_base.specs.declared.sent.Sent.{Sent}
 use Rattle.upi_base.specs.declared.sent.Party.{Party}
@@ -21,7 +20,6 @@ use Rattle.upi_base.specs.declared.code.Leg.{Leg}
 use Rattle.upi_base.specs.declared.code.Leg.TheVariants as leg
 use Rattle.upi_base.specs.declared.code.Answer.{Answer}
 use Rattle.upi_base.specs.declared.code.Answer.TheVariants as answered
-use Rattle.upi_base.specs.declared.setup.AccountRef.{AccountRef}
 use Rattle.upi_base.specs.declared.setup.Account.{Account}
 use Rattle.upi_base.specs.declared.setup.SetupLine.{SetupLine}
 use Rattle.upi_base.specs.Setup.{account_at}
@@ -29,21 +27,20 @@ use Rattle.upi_laws.specs.declared.event.Said.{Said}
 use Rattle.upi_laws.specs.declared.event.Event.{Event}
 use Rattle.upi_laws.specs.declared.event.Event.TheVariants as event
 use Rattle.upi_laws.specs.declared.places.Opening.{Opening}
-use Rattle.upi_laws.specs.declared.places.Decision.{Decision}
 use Rattle.upi_laws.specs.declared.places.Decision.TheVariants as decided
 use Rattle.upi_laws.specs.declared.places.LegEnd.{LegEnd}
 use Rattle.upi_laws.specs.declared.places.LegEnd.TheVariants as ended
-use Rattle.upi_laws.specs.History.{message_at, is_closed, heard_from, said_by, delivered, read_message, event_of}
-use Rattle.upi_laws.specs.Places.{same_leg, opened, opening, decision, tells, end_told, ends_on, ends, due_debit, debit, due_credit, credit, cause_by, cause, reverses_on, reverses, reversal}
-use Rattle.upi_laws.specs.Postings.{Answers, reversal_due, reversal_due_by, arrives_on, arrives, posted_at, post_leg, post, answer}
+use Rattle.upi_laws.specs.History.{message_at, is_closed, said_by, delivered, read_message, event_of}
+use Rattle.upi_laws.specs.Places.{same_leg, opened, opening, decision, tells, end_told, ends_on, ends, due_debit, debit, due_credit, credit, cause, reverses_on, reverses, reversal}
+use Rattle.upi_laws.specs.Postings.{Answers, reversal_due, arrives_on, arrives, posted_at, post_leg, post, answer}
 use Rattle.upi_laws.specs.Replies.{order_answer}
 use Rattle.upi_laws.specs.Legal.{Legal}
-use Rattle.upi_laws.specs.Backed.{OrderPlaced, IsOrder, BackedBy, Backed, OrdersArePlaced, OrdersAreAnswered, AnswersStand, has_ended, AnswersEnd, AnswerPlaced, EndAnswered, LegsAreAnswered, AllLegsAreAnswered}
-use Rattle.upi_laws.proofs.Stays.{or_stays, or_cases, guarded, if_some, some_same, some_is, is_some_has, opening_stays_one, decision_stays, debit_stays, answer_stays}
-use Rattle.upi_laws.proofs.Facts.{decided_opened, due_debit_is, debit_approved, credit_debited, cause_from, cause_stays}
+use Rattle.upi_laws.specs.Backed.{OrderPlaced, BackedBy, OrdersArePlaced, OrdersAreAnswered, AnswersStand, has_ended, AnswersEnd, AnswerPlaced, EndAnswered, AllLegsAreAnswered}
+use Rattle.upi_laws.proofs.Stays.{or_cases, guarded, if_some, some_same, some_is, is_some_has, decision_stays, debit_stays, answer_stays}
+use Rattle.upi_laws.proofs.Facts.{decided_opened, due_debit_is}
 use Rattle.upi_laws.proofs.Closing.{running_is_uncut}
 use Rattle.upi_laws.proofs.Once.{same_leg_is, same_leg_self, ordered, caused_opened}
-use Rattle.upi_laws.proofs.Backed.{ message_backed, cause_held}
+use Rattle.upi_laws.proofs.Backed.{message_backed, cause_held}
 
 -- ---- what was delivered
 

@@ -1,14 +1,12 @@
 -- Which places a transaction has together.
-use Rattle.std.proofs.Common.{◌≡◌, ℕ, Bool, true, false, List, Option, Some, None, refl, sym, subst}
+use Rattle.std.proofs.Common.{◌≡◌, ℕ, true, Option, Some, None, refl, sym, subst}
 use Rattle.std.specs.Prelude.{is_some}
-use Rattle.upi_base.specs.declared.entry.Entry.{Entry}
 use Rattle.upi_base.specs.declared.code.Code.{Code}
-use Rattle.upi_base.specs.declared.setup.SetupLine.{SetupLine}
 use Rattle.upi_laws.specs.declared.places.Decision.{Decision}
 use Rattle.upi_laws.specs.declared.places.Decision.TheVariants as decided
 use Rattle.upi_laws.specs.declared.places.LegEnd.{LegEnd}
 use Rattle.upi_laws.specs.declared.places.LegEnd.TheVariants as ended
-use Rattle.upi_laws.specs.Places.{decision, debit, credit, cause_by, cause, reversal}
+use Rattle.upi_laws.specs.Places.{decision, debit, credit, cause_by, reversal}
 use Rattle.upi_laws.specs.Tellings.{IsStage, PlacesAreStages}
 use Rattle.upi_laws.proofs.Stays.{is_some_has}
 use Rattle.upi_laws.proofs.Facts.{debit_approved, credit_debited, reversal_caused}

@@ -1,8 +1,8 @@
 -- How often the outcome of a transaction is told.
-use Rattle.std.proofs.Common.{◌≡◌, ◌≢◌, ℕ, zero, suc, ◌+◌, ◌<◌, ◌≤◌, Bool, true, false, cond, List, [], ◌∷◌, ◌++◌, Option, Some, None, refl, sym, ◌∙◌, ap, subst, append-nil, arith}
-use Rattle.std.specs.Prelude.{is_some, is_none, not, ◌&&◌, ◌||◌, nat_lt, nat_le}
+use Rattle.std.proofs.Common.{◌≡◌, ℕ, zero, suc, ◌+◌, ◌<◌, ◌≤◌, Bool, true, false, cond, List, [], ◌∷◌, ◌++◌, Option, Some, None, refl, sym, ◌∙◌, ap, subst, append-nil, arith}
+use Rattle.std.specs.Prelude.{is_some, is_none, ◌&&◌, ◌||◌, nat_lt, nat_le}
 use Rattle.std.specs.List.{count_by}
-use Rattle.std.specs.Option.{option_or, option_and_then, option_map}
+use Rattle.std.specs.Option.{option_or, option_and_then}
 use Rattle.std.specs.Str.{bytes_eq}
 use Rattle.std.proofs.lemmas.Bool.{and_parts, or_parts, both_ways, ltb-true}
 use Rattle.std.proofs.lemmas.Option.{cond_some, option_and_then_some}
@@ -45,10 +45,10 @@ use Rattle.upi_laws.specs.Outcomes.{credit_outcome, debit_outcome, outcome_by, o
 use Rattle.upi_laws.specs.Postings.{posted_at}
 use Rattle.upi_laws.specs.Dues.{orders, confirms, last_sent, acknowledged, thirty_after, due_confirm, due_by, due, passed, is_due}
 use Rattle.upi_laws.specs.Replies.{order_answer}
-use Rattle.upi_laws.specs.Sending.{question, order_at, order, confirm, outcome_messages, anew, sent_on_opening, sent_on_decision, sent_on_debit, sent_on_credit, sent_on_reversal, again, sent_again, sent_by_places, sent_by_state, sent_by_txn, sent_on_late, sent_on_event, bank_answer, model_word, model_answer_by, receiver_answer, answered_message, receiver_answers, sent_on_said, sent_on, sent_by}
+use Rattle.upi_laws.specs.Sending.{question, order_at, order, confirm, outcome_messages, sent_on_opening, sent_on_decision, sent_on_debit, sent_on_credit, sent_on_reversal, again, sent_again, sent_by_places, sent_by_state, sent_by_txn, sent_on_late, sent_on_event, bank_answer, model_word, model_answer_by, receiver_answer, answered_message, receiver_answers, sent_on_said, sent_on, sent_by}
 use Rattle.upi_laws.specs.Legal.{Legal}
 use Rattle.upi_laws.specs.Laws.{is_about}
-use Rattle.upi_laws.specs.Tellings.{IsStage, results, outcome_new, is_late_for, confirmed_again, EntryTellings, AllEntryTellings, ClosedAreSilent, running, OutcomeTellings, AllOutcomeTellings}
+use Rattle.upi_laws.specs.Tellings.{IsStage, results, outcome_new, is_late_for, confirmed_again, AllEntryTellings, ClosedAreSilent, running, AllOutcomeTellings}
 use Rattle.upi_laws.proofs.Stays.{none_some, opening_stays_one}
 use Rattle.upi_laws.proofs.Facts.{decided_opened, outcome_stays}
 use Rattle.upi_laws.proofs.Openings.{opening_is_named}
@@ -182,9 +182,11 @@ asked_untold S t q r e h run is = go (opening S t h) refl
     or_none : {X : Type 0} (o p : Option X) → p ≡ None → option_or o p ≡ o
     or_none None p e = e
     or_none (Some x) p e = refl
+
     then_none : {X Y : Type 0} (f : X → Option Y) (o : Option X) → ((x : X) → f x ≡ None) → option_and_then f o ≡ None
     then_none f None e = refl
     then_none f (Some x) e = e x
+
     opened_same : (o : Opening) → opening S t h ≡ Some o → outcome_of S t (e ∷ h) ≡ outcome_of S t h
     opened_same o begun =
         let same_o : opening S t (e ∷ h) ≡ opening S t h = opening_stays_one S t e h o begun ∙ sym begun in
@@ -193,6 +195,7 @@ asked_untold S t q r e h run is = go (opening S t h) refl
         let same_c : credit S t (e ∷ h) ≡ credit S t h = or_none (credit S t h) _ ((λ i. ends t leg.Credit (run i) (due_credit (debit S t h)) (is i) e.at) ∙ then_none (ends_on t leg.Credit (event.Heard q (said.Pay r)) e.at) (due_credit (debit S t h)) (λ _. refl)) in
         let same_back : reversal S t (e ∷ h) ≡ reversal S t h = or_none (reversal S t h) _ ((λ i. reverses t (run i) (cause S t h) (is i) e.at) ∙ then_none (λ (c : Code). reverses_on t (event.Heard q (said.Pay r)) e.at) (cause S t h) (λ _. refl)) in
         λ i. outcome_by (same_o i) (same_a i) (same_d i) (same_c i) (is_some (same_back i))
+
     go : (o : Option Opening) → opening S t h ≡ o → told_new 1 (outcome_of S t h) (outcome_of S t (e ∷ h)) ≡ 0
     go None none = unopened_untold S t e h none
     go (Some o) begun = told_new_same 1 (outcome_of S t h) (outcome_of S t (e ∷ h)) (opened_same o begun)
@@ -343,10 +346,13 @@ module _ (p : Sent → Bool) (t : List ℕ) (m : ℕ) (k : IsTold p t m) where
     where
       w : List ℕ
       w = o.terms.txn
+
       named : o.terms.txn ≡ u
       named = opening_is_named S u h o begun
+
       first : tally p (sent_by_txn S h o (event.Late o.terms.txn) e.at) ≡ told_new 1 (outcome_of S t h) (outcome_of S t (e ∷ h))
       first = ap (λ (x : List ℕ). tally p (sent_by_txn S h o (event.Late x) e.at)) named ∙ about_tally S h e (event.Late u) u (Some o) run is (λ c. cc) (λ other. other) begun
+
       go : (b : Bool) → bytes_eq u t ≡ b → cond (bytes_eq o.terms.txn t && is_some (outcome_of S o.terms.txn h) && is_due S o.terms.txn h e.at) m 0 ≡ cond (bytes_eq u t && is_some (outcome_of S t h) && is_due S t h e.at) m 0
       go true same = (λ i. cond (bytes_eq (named i) t && is_some (outcome_of S (named i) h) && is_due S (named i) h e.at) m 0) ∙ (λ i. cond (bytes_eq u t && is_some (outcome_of S ((bytes_eq-Decides u t).0 same i) h) && is_due S ((bytes_eq-Decides u t).0 same i) h e.at) m 0)
       go false same = (λ i. cond (bytes_eq (named i) t && is_some (outcome_of S o.terms.txn h) && is_due S o.terms.txn h e.at) m 0) ∙ ap (λ (b : Bool). cond (b && is_some (outcome_of S o.terms.txn h) && is_due S o.terms.txn h e.at) m 0) same
@@ -450,6 +456,7 @@ closed_are_silent S e before legal shut = legal.1.sends ∙ go (is_closed before
         left : (b : Bool) → (b || false) ≡ true → b ≡ true
         left true e = refl
         left false e = e
+
     go : (b : Bool) → is_closed before ≡ b → cond (is_closed before) [] (sent_on S before (event_of before e.call) e.at ++ receiver_answers S before e.call) ≡ []
     go true is = ap (λ (b : Bool). cond b [] (sent_on S before (event_of before e.call) e.at ++ receiver_answers S before e.call)) is
     go false is = ap (λ (b : Bool). cond b [] (sent_on S before (event_of before e.call) e.at ++ receiver_answers S before e.call)) is ∙ at_close (ap (λ (b : Bool). is_close e.call || b) (sym is) ∙ shut)
@@ -503,18 +510,22 @@ due_few S t h now x run told is = go (opening S t h) refl
   where
     n : ℕ
     n = count_by (confirms t) (sent h)
+
     last' : Option ℕ
     last' = last_sent (confirms t) h
+
     heard : Option ℕ
     heard = acknowledged S t h
+
     few : (b : Bool) (o : Option ℕ) → passed now (cond b o None) ≡ true → b ≡ true
     few true o e = refl
     few false o e = e
+
     go : (o : Option Opening) → opening S t h ≡ o → count_by (confirms t) (sent h) < 4
     go None none = absurd (none_some (outcome_of S t h) x (unopened_now S t h none) told)
     go (Some o) begun =
         let which : is_due S t h now ≡ passed now (due_confirm (count_by (confirms t) (sent h)) (last_sent (confirms t) h) (acknowledged S t h)) =
-          λ i. passed now (cond (run i) None (due_by (begun i) (told i) (decision S t h) (debit S t h) (cause S t h) (last_sent (orders t leg.Reversal) h) (due_confirm (count_by (confirms t) (sent h)) (last_sent (confirms t) h) (acknowledged S t h)))) in
+        λ i. passed now (cond (run i) None (due_by (begun i) (told i) (decision S t h) (debit S t h) (cause S t h) (last_sent (orders t leg.Reversal) h) (due_confirm (count_by (confirms t) (sent h)) (last_sent (confirms t) h) (acknowledged S t h)))) in
         ltb-true (count_by (confirms t) (sent h)) 4 (and_parts (nat_lt (count_by (confirms t) (sent h)) 4) (is_none (acknowledged S t h))
         (few (nat_lt (count_by (confirms t) (sent h)) 4 && is_none (acknowledged S t h)) (thirty_after (last_sent (confirms t) h)) (sym which ∙ is))).0
 

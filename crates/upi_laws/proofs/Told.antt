@@ -1,16 +1,14 @@
 -- What replies and messages tell of an outcome.
-use Rattle.std.proofs.Common.{◌≡◌, ℕ, Bool, true, false, cond, List, [], ◌∷◌, ◌++◌, Option, Some, None, refl, sym, ◌∙◌, ap, subst}
-use Rattle.std.specs.Prelude.{is_some, is_none, not, ◌&&◌, ◌||◌, ◌==◌, nat_le}
+use Rattle.std.proofs.Common.{◌≡◌, ℕ, Bool, true, false, cond, List, [], ◌∷◌, Option, Some, None, refl, sym, ◌∙◌, ap, subst}
+use Rattle.std.specs.Prelude.{is_some, is_none, not, ◌||◌, ◌==◌, nat_le}
 use Rattle.std.specs.List.{AllByRecursion}
-use Rattle.std.specs.Option.{option_or, option_and_then}
+use Rattle.std.specs.Option.{option_and_then}
 use Rattle.std.specs.Str.{bytes_eq}
 use Rattle.std.proofs.lemmas.Option.{cond_some}
 use Rattle.std.proofs.lemmas.Slice.Eq.{bytes_eq-Decides}
 use Rattle.upi_base.specs.declared.entry.Entry.{Entry}
 use Rattle.upi_base.specs.declared.entry.Call.{Call}
 use Rattle.upi_base.specs.declared.entry.Call.TheVariants as call
-use Rattle.upi_base.specs.declared.message.Input.{Input}
-use Rattle.upi_base.specs.declared.message.Input.TheVariants as input
 use Rattle.upi_base.specs.declared.message.PayReq.{PayReq}
 use Rattle.upi_base.specs.declared.sent.Sent.{Sent}
 use Rattle.upi_base.specs.declared.sent.Party.{Party}
@@ -35,13 +33,12 @@ use Rattle.upi_laws.specs.declared.places.Decision.{Decision}
 use Rattle.upi_laws.specs.declared.places.Decision.TheVariants as decided
 use Rattle.upi_laws.specs.declared.places.LegEnd.{LegEnd}
 use Rattle.upi_laws.specs.declared.places.LegEnd.TheVariants as ended
-use Rattle.upi_laws.specs.History.{is_closed, heard_from, event_of}
+use Rattle.upi_laws.specs.History.{is_closed, event_of}
 use Rattle.upi_laws.specs.Places.{asking, asked, accounts_agree, due_answer, if_of, opened, opens, opening, decides, decision, ends, due_debit, debit, due_credit, credit, cause, reverses, reversal}
 use Rattle.upi_laws.specs.Outcomes.{late_code, outcome_by, outcome_of}
 use Rattle.upi_laws.specs.Dues.{is_due}
 use Rattle.upi_laws.specs.Replies.{ok, no, repeats, reply_pay, reply_decided, reply_auth, reply_check, reply_confirmed, reply_heard, late_answer, reply_answered, order_answer, reply_order, reply_late, reply_on, reply_closed_said, reply_closed_on, reply_closed, reply_to}
-use Rattle.upi_laws.specs.Legal.{Legal}
-use Rattle.upi_laws.specs.Backed.{BackedBy, Backed, AllBacked, outcome_in, status_in, IsOfCheck, AllTell, EntryTells, OutcomeTold, OutcomeCarried, OutcomesAreCarried}
+use Rattle.upi_laws.specs.Backed.{BackedBy, AllBacked, outcome_in, status_in, IsOfCheck, AllTell, OutcomeTold, OutcomesAreCarried}
 use Rattle.upi_laws.proofs.Stays.{or_nothing, some_same, none_some}
 use Rattle.upi_laws.proofs.Facts.{outcome_stays}
 use Rattle.upi_laws.proofs.Backed.{legal_before, backed_when_sent}

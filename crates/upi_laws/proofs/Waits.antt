@@ -1,13 +1,11 @@
 -- What is opened and has no outcome is due.
 use Rattle.std.proofs.Common.{◌≡◌, ℕ, ◌+◌, ◌≤◌, Bool, true, false, cond, List, [], ◌∷◌, ◌++◌, Option, Some, None, refl, sym, ◌∙◌, ap, subst, inl, inr, arith}
-use Rattle.std.specs.Prelude.{is_some, is_none, not, ◌&&◌, ◌||◌}
+use Rattle.std.specs.Prelude.{is_some, ◌&&◌, ◌||◌}
 use Rattle.std.specs.List.{list_any, count_by}
-use Rattle.std.specs.Option.{option_or, option_and_then, option_map}
+use Rattle.std.specs.Option.{option_or, option_and_then}
 use Rattle.std.specs.Str.{bytes_eq}
-use Rattle.std.proofs.lemmas.Bool.{both_ways}
 use Rattle.std.proofs.lemmas.Slice.Eq.{bytes_eq-Decides}
 use Rattle.upi_base.specs.declared.entry.Entry.{Entry}
-use Rattle.upi_base.specs.declared.message.PayReq.{PayReq}
 use Rattle.upi_base.specs.declared.sent.Sent.{Sent}
 use Rattle.upi_base.specs.declared.code.Leg.{Leg}
 use Rattle.upi_base.specs.declared.code.Leg.TheVariants as leg
@@ -18,7 +16,6 @@ use Rattle.upi_base.specs.declared.setup.Account.{Account}
 use Rattle.upi_base.specs.declared.setup.SetupLine.{SetupLine}
 use Rattle.upi_base.specs.Lists.{when}
 use Rattle.upi_base.specs.Setup.{account_at}
-use Rattle.upi_laws.specs.declared.event.Said.{Said}
 use Rattle.upi_laws.specs.declared.event.Event.{Event}
 use Rattle.upi_laws.specs.declared.event.Event.TheVariants as event
 use Rattle.upi_laws.specs.declared.places.Opening.{Opening}
@@ -27,15 +24,15 @@ use Rattle.upi_laws.specs.declared.places.Decision.TheVariants as decided
 use Rattle.upi_laws.specs.declared.places.LegEnd.{LegEnd}
 use Rattle.upi_laws.specs.declared.places.LegEnd.TheVariants as ended
 use Rattle.upi_laws.specs.History.{sent, is_closed, event_of}
-use Rattle.upi_laws.specs.Places.{due_answer, opening, decision, ends, ends_on, due_debit, debit, due_credit, credit, cause_by, cause, reversal}
+use Rattle.upi_laws.specs.Places.{opening, decision, ends, ends_on, due_debit, debit, due_credit, credit, cause_by, cause, reversal}
 use Rattle.upi_laws.specs.Outcomes.{outcome_by, outcome_of}
 use Rattle.upi_laws.specs.Dues.{orders, sends, last_sent, thirty_after, due_by, due_open, due_confirm, due, acknowledged, confirms, is_due}
 use Rattle.upi_laws.specs.Sending.{order_at, order, sent_by_places, sent_by_state, sent_by_txn, sent_on_late, sent_on_event, sent_again, sent_on, receiver_answers}
 use Rattle.upi_laws.specs.Legal.{Legal}
 use Rattle.upi_laws.specs.Laws.{is_about}
 use Rattle.upi_laws.specs.Tellings.{IsStage, ReversalsAreSent, OpenAreDue}
-use Rattle.upi_laws.proofs.Stays.{none_some, some_is, is_some_has, or_nothing}
-use Rattle.upi_laws.proofs.Facts.{decided_opened, debit_approved, credit_debited, cause_from}
+use Rattle.upi_laws.proofs.Stays.{none_some, is_some_has, or_nothing}
+use Rattle.upi_laws.proofs.Facts.{debit_approved, credit_debited, cause_from}
 use Rattle.upi_laws.proofs.Openings.{opening_is_named, opening_allowed}
 use Rattle.upi_laws.proofs.Steps.{opening_alone, closed_is_untouched, others_are_untouched}
 use Rattle.upi_laws.proofs.Stages.{places_are_stages}
@@ -164,12 +161,14 @@ on_reverses S t h e v why run is before after = go v is
   where
     other : (v : Event) → event_of h e.call ≡ v → is_about t v ≡ false → ⊥
     other v is o = none_some (cause S t h) why before (sym (others_are_untouched S t e h (ap (is_about t) is ∙ o)).cause_same ∙ after)
+
     about_answer : (u : List ℕ) (l : Leg) (a : Answer) (b : Bool) → event_of h e.call ≡ event.Answered u l a → bytes_eq u t ≡ b → 1 ≤ tally (orders t leg.Reversal) (sent_on_event S h (event.Answered u l a) e.at (opening S u h))
     about_answer u l a false is d = absurd (other (event.Answered u l a) is d)
     about_answer u l a true is d =
         let o = opened_before S t h e why after in
         let here : opening S u h ≡ Some o.0 = ap (λ (w : List ℕ). opening S w h) ((bytes_eq-Decides u t).0 d) ∙ o.1 in
         subst (λ (x : Option Opening). 1 ≤ tally (orders t leg.Reversal) (sent_on_event S h (event.Answered u l a) e.at x)) (sym here) (named_reverses S t h e o.0 (event.Answered u l a) why run is o.1 before after)
+
     about_late : (u : List ℕ) (b : Bool) → event_of h e.call ≡ event.Late u → bytes_eq u t ≡ b → 1 ≤ tally (orders t leg.Reversal) (sent_on_late S h e.at (opening S u h))
     about_late u false is d = absurd (other (event.Late u) is d)
     about_late u true is d =
@@ -180,12 +179,14 @@ on_reverses S t h e v why run is before after = go v is
         let first = named_reverses S t h e o.0 (event.Late o.0.terms.txn) why run (is ∙ ap event.Late (same_u ∙ sym named)) o.1 before after in
         subst (λ (x : Option Opening). 1 ≤ tally (orders t leg.Reversal) (sent_on_late S h e.at x)) (sym here)
         (omega (arith, first, tally_append (orders t leg.Reversal) (sent_by_txn S h o.0 (event.Late o.0.terms.txn) e.at) (sent_again S o.0.terms (outcome_of S o.0.terms.txn h) (cause S o.0.terms.txn h) (is_due S o.0.terms.txn h e.at))))
+
     at_close : event_of h e.call ≡ event.Close → ⊥
     at_close is =
         let o = opened_before S t h e why after in
         let named : o.0.terms.txn ≡ t = opening_is_named S t h o.0 o.1 in
         let none = cause_after S h e o.0 event.Close run is ∙ closing_uncaused o.0 (decision S o.0.terms.txn h) (debit S o.0.terms.txn h) (credit S o.0.terms.txn h) (reversal S o.0.terms.txn h) e.at (places_are_stages S o.0.terms.txn h) (ap (λ (w : List ℕ). cause S w h) named ∙ before) in
         none_some (cause S t (e ∷ h)) why (ap (λ (w : List ℕ). cause S w (e ∷ h)) (sym named) ∙ none) after
+
     go : (v : Event) → event_of h e.call ≡ v → 1 ≤ tally (orders t leg.Reversal) (sent_on S h v e.at)
     go (event.Heard q what) is = absurd (none_some (cause S t h) why before (sym (quiet_cause S t h e (event.Heard q what) run is (λ l due. refl)) ∙ after))
     go (event.Answered u l a) is = about_answer u l a (bytes_eq u t) is refl
@@ -256,6 +257,6 @@ open_are_due S t h o legal run begun none =
     let c = credit S t h in
     let returned = last_sent (orders t leg.Reversal) h in
     let which : due S t h ≡ due_open o a d (cause_by d c) returned =
-      λ i. cond (run i) None (due_by (begun i) (none i) a d (cause_by d c) returned (due_confirm (count_by (confirms t) (sent h)) (last_sent (confirms t) h) (acknowledged S t h))) in
+    λ i. cond (run i) None (due_by (begun i) (none i) a d (cause_by d c) returned (due_confirm (count_by (confirms t) (sent h)) (last_sent (confirms t) h) (acknowledged S t h))) in
     let still : outcome_by (Some o) a d c (is_some (reversal S t h)) ≡ None = ap (λ (x : Option Opening). outcome_by x a d c (is_some (reversal S t h))) (sym begun) ∙ none in
     is_some_has (due S t h) (ap is_some which ∙ open_due o a d c (reversal S t h) returned (places_are_stages S t h) still (λ w. let k = is_some_has (cause S t h) w in sent_last S t h k.0 legal k.1))

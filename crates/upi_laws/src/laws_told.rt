@@ -58,37 +58,31 @@ pub fn legs_are_answered()
 /// A transaction's question, debit, credit and reversal end one behind the other.
 pub fn places_are_stages()
     ensures { PlacesAreStages }
-{
-}
+{}
 
 /// An entry tells an outcome that is new once to either PSP, and a Late that is due confirms it
 /// once more.
 pub fn entries_tell()
     ensures { AllEntryTellings }
-{
-}
+{}
 
 /// At a Close and behind it nothing is sent.
 pub fn closed_are_silent()
     ensures { ClosedAreSilent }
-{
-}
+{}
 
 /// An outcome that is not the Close's is told to the asking PSP once, and to the asked PSP one to
 /// four times; no other is told.
 pub fn outcomes_are_told()
     ensures { AllOutcomeTellings }
-{
-}
+{}
 
 /// A reversal that is wanted was sent.
 pub fn reversals_are_sent()
     ensures { ReversalsAreSent }
-{
-}
+{}
 
 /// Before a Close a transaction that is opened and has no outcome is due at a moment.
 pub fn open_are_due()
     ensures { OpenAreDue }
-{
-}
+{}
