@@ -1,13 +1,10 @@
 -- Balances and money in flight keep their sum.
 use Rattle.std.proofs.Common.{◌≡◌, ℕ, ◌+◌, ◌-◌, ◌≤◌, Bool, true, false, cond, List, [], ◌∷◌, Option, Some, None, refl, sym, ◌∙◌, ap, subst, inl, inr, arith}
 use Rattle.std.specs.Prelude.{is_some, not, ◌&&◌, nat_lt}
-use Rattle.std.specs.Option.{option_or, option_and_then, option_map}
+use Rattle.std.specs.Option.{option_map}
 use Rattle.std.specs.List.{AllByRecursion, sum_by}
-use Rattle.std.specs.Str.{bytes_eq}
 use Rattle.std.proofs.lemmas.Option.{option_and_then_some}
-use Rattle.std.proofs.lemmas.Bool.{both_ways, false_from_ne_true}
 use Rattle.std.proofs.lemmas.Bool.Decides.{nat_tests}
-use Rattle.std.proofs.lemmas.Slice.Eq.{bytes_eq-Decides}
 use Rattle.upi_base.specs.declared.entry.Entry.{Entry}
 use Rattle.upi_base.specs.declared.message.PayReq.{PayReq}
 use Rattle.upi_base.specs.declared.code.Leg.{Leg}
@@ -15,28 +12,24 @@ use Rattle.upi_base.specs.declared.code.Leg.TheVariants as leg
 use Rattle.upi_base.specs.declared.code.Code.TheVariants as code
 use Rattle.upi_base.specs.declared.code.Answer.{Answer}
 use Rattle.upi_base.specs.declared.code.Answer.TheVariants as answered
-use Rattle.upi_base.specs.declared.setup.AccountRef.{AccountRef}
 use Rattle.upi_base.specs.declared.setup.Account.{Account}
 use Rattle.upi_base.specs.declared.setup.Listing.{Listing}
 use Rattle.upi_base.specs.declared.setup.SetupLine.{SetupLine}
 use Rattle.upi_base.specs.Setup.{same_account, account_named, listing_at, account_at, is_setup}
-use Rattle.upi_laws.specs.declared.event.Event.{Event}
-use Rattle.upi_laws.specs.declared.event.Event.TheVariants as event
 use Rattle.upi_laws.specs.declared.places.Opening.{Opening}
-use Rattle.upi_laws.specs.History.{is_closed, event_of}
-use Rattle.upi_laws.specs.Places.{has_id, opens, opened, opening}
-use Rattle.upi_laws.specs.Postings.{is_posted, is_account, posted_at, share, total, balance_by, balance, post_debit, post_leg, post, arrives, reversal_due, answer, in_flight, flight}
+use Rattle.upi_laws.specs.Places.{opened, opening}
+use Rattle.upi_laws.specs.Postings.{is_posted, is_account, total, balance_by, balance, post_debit, post_leg, post, answer, in_flight, flight}
 use Rattle.upi_laws.specs.Settlement.{accounts}
 use Rattle.upi_laws.specs.Legal.{Legal}
 use Rattle.upi_laws.specs.Laws.{IsAllowed}
 use Rattle.upi_laws.specs.Sound.{LegalKeepsMoney}
-use Rattle.upi_laws.proofs.Stays.{or_cases, or_none, if_some, some_same, is_some_has}
-use Rattle.upi_laws.proofs.Openings.{opens_found, openings_are_allowed}
-use Rattle.upi_laws.proofs.Steps.{if_false}
-use Rattle.upi_laws.proofs.Once.{arrives_is, total_joined, unopened_unanswered}
+use Rattle.upi_laws.proofs.Stays.{some_same, is_some_has}
+use Rattle.upi_laws.proofs.Openings.{openings_are_allowed}
 use Rattle.upi_laws.proofs.Legs.{posted_is, returned_taken, given_taken, given_unreversed}
-use Rattle.upi_laws.proofs.Setups.{same_account_is, accounts_found, named_all}
-use Rattle.upi_laws.proofs.Sums.{sum_add, sum_same, sum_all, sum_le, of_opening, sum_at, counts, moves_at, totals}
+use Rattle.upi_laws.proofs.Setups.{accounts_found, named_found}
+use Rattle.upi_base.proofs.Setups.{same_account_is}
+use Rattle.upi_laws.proofs.Posted.{debit_forth, posts_one, total_grows, total_here}
+use Rattle.upi_laws.proofs.Sums.{sum_add, sum_all, counts, moves_at, totals}
 
 -- ---- one name, one account
 
@@ -48,7 +41,7 @@ named_once : (S : List SetupLine) (xs : List Account) → is_setup S ≡ true �
 named_once S [] setup p = tt
 named_once S (a ∷ xs) setup p = (
   λ addr b at same. option_and_then_some (λ (l : Listing). account_named S l.ac) (listing_at S addr) b at (λ l _ named.
-      let own = named_all (λ (x : Account). account_named S x.ac ≡ Some x) S l.ac b (accounts_found S setup) named in
+      let own = named_found S l.ac b named in
       some_same b a (sym own.1 ∙ (ap (account_named S) (same_account_is b.ac a.ac same) ∙ p.0))),
   named_once S xs setup p.1,
 )
@@ -56,47 +49,7 @@ named_once S (a ∷ xs) setup p = (
 pub accounts_named_once : (S : List SetupLine) → is_setup S ≡ true → AllByRecursion (IsNamedOnce S) (accounts S)
 accounts_named_once S setup = named_once S (accounts S) setup (accounts_found S setup)
 
--- ---- what an entry adds to what the legs moved
-
-share_grows : (owner : Bool) (o p : Option Answer) (n : ℕ) → cond (owner && is_posted o) n 0 ≤ cond (owner && is_posted (option_or o p)) n 0
-share_grows false o p n = omega arith
-share_grows true (Some answered.Posted) p n = omega arith
-share_grows true (Some (answered.Declined c)) p n = omega arith
-share_grows true None p n = omega arith
-
-total_grows : (S : List SetupLine) (e : Entry) (h : List Entry) (ac : AccountRef) (l : Leg) (os : List Opening) → total S os (answer S h) ac l ≤ total S os (answer S (e ∷ h)) ac l
-total_grows S e h ac l os =
-    sum_le (λ (o : Opening). share S ac l (answer S h o.terms.txn l) o.terms) (λ (o : Opening). share S ac l (answer S (e ∷ h) o.terms.txn l) o.terms)
-    (λ o. share_grows (is_account ac (account_at S (posted_at l o.terms))) (answer S h o.terms.txn l) _ o.terms.amount) os
-
--- a payment that is opened has moved nothing, this entry included
-total_here : (S : List SetupLine) (e : Entry) (h : List Entry) (ac : AccountRef) (l : Leg) → total S (opened S (e ∷ h)) (answer S (e ∷ h)) ac l ≡ total S (opened S h) (answer S (e ∷ h)) ac l
-total_here S e h ac l =
-    total_joined S (answer S (e ∷ h)) ac l (opens S (opened S h) (is_closed h) (event_of h e.call) e.at) (opened S h) (λ q is.
-    let none = (opens_found S e h q is).0 in
-    nothing (answer S h q.terms.txn l) (arrives q.terms.txn l (is_closed h) (reversal_due S q.terms.txn h) (event_of h e.call)) (opening S q.terms.txn h) (unopened_unanswered S h q.terms.txn l none) none)
-  where
-    nothing : (a : Option Answer) (b : Bool) (o : Option Opening) → a ≡ None → o ≡ None → option_or a (cond b (option_and_then (λ (o : Opening). post_leg S (opened S h) (answer S h) o.terms l) o) None) ≡ None
-    nothing a true o is none = rw (is, none) refl
-    nothing a false o is none = rw is refl
-
 -- ---- a debit is covered
-
--- the transaction whose debit is ordered
-abbrev debit_of : Event → Option (List ℕ)
-debit_of (event.Ordered t leg.Debit) = Some t
-debit_of _ = None
-
-debit_arrives : (t : List ℕ) (closed due : Bool) (e : Event) → arrives t leg.Debit closed due e ≡ true → debit_of e ≡ Some t
-debit_arrives t closed due e is = elim (arrives_is t leg.Debit closed due e is).1 [
-  | inl ordered ↦ ap debit_of ordered
-  | inr close ↦ absurd (let z : leg.Debit ≡ leg.Reversal = close.1 in cc)
-]
-
-same_posted : (S : List SetupLine) (e : Entry) (h : List Entry) (t : List ℕ) → (debit_of (event_of h e.call) ≡ Some t → ⊥) → is_posted (answer S (e ∷ h) t leg.Debit) ≡ is_posted (answer S h t leg.Debit)
-same_posted S e h t away =
-    let no = false_from_ne_true (arrives t leg.Debit (is_closed h) (reversal_due S t h) (event_of h e.call)) (λ a. away (debit_arrives t (is_closed h) (reversal_due S t h) (event_of h e.call) a)) in
-    ap is_posted (ap (option_or (answer S h t leg.Debit)) (if_false (arrives t leg.Debit (is_closed h) (reversal_due S t h) (event_of h e.call)) (post S (opened S h) (answer S h) t leg.Debit) no) ∙ or_none (answer S h t leg.Debit))
 
 -- what a debit takes that is posted was there
 covered : (S : List SetupLine) (h : List Entry) (a : Account) (t : List ℕ) (o : Opening) → IsNamedOnce S a → opening S t h ≡ Some o → post S (opened S h) (answer S h) t leg.Debit ≡ Some answered.Posted
@@ -129,68 +82,12 @@ abbrev Covered : List SetupLine → List Entry → Account → Type 0
 Covered S h a = total S (opened S h) (answer S h) a.ac leg.Debit ≤ a.opening + total S (opened S h) (answer S h) a.ac leg.Reversal + total S (opened S h) (answer S h) a.ac leg.Credit
 
 -- the payments before, as they are answered with this entry
-abbrev CoveredHere : List SetupLine → Entry → List Entry → Account → Type 0
-CoveredHere S e h a = total S (opened S h) (answer S (e ∷ h)) a.ac leg.Debit ≤ a.opening + total S (opened S h) (answer S h) a.ac leg.Reversal + total S (opened S h) (answer S h) a.ac leg.Credit
-
-all_same : (S : List SetupLine) (e : Entry) (h : List Entry) (a : Account) → Covered S h a → ((t : List ℕ) → is_posted (answer S (e ∷ h) t leg.Debit) ≡ is_posted (answer S h t leg.Debit)) → CoveredHere S e h a
-all_same S e h a before same =
-    let s = sum_same (λ (o : Opening). share S a.ac leg.Debit (answer S (e ∷ h) o.terms.txn leg.Debit) o.terms) (λ (o : Opening). share S a.ac leg.Debit (answer S h o.terms.txn leg.Debit) o.terms)
-    (λ o. ap (λ (b : Bool). cond (is_account a.ac (account_at S o.terms.payer) && b) o.terms.amount 0) (same o.terms.txn)) (opened S h) in
-    omega (arith, s, before)
-
--- one debit more adds at most its own payment
-newly_posted : (S : List SetupLine) (e : Entry) (h : List Entry) (a : Account) (t : List ℕ) (o : Opening) → IsNamedOnce S a → Covered S h a
-    → ((u : List ℕ) → bytes_eq u t ≡ false → is_posted (answer S (e ∷ h) u leg.Debit) ≡ is_posted (answer S h u leg.Debit))
-    → opening S t h ≡ Some o → post S (opened S h) (answer S h) t leg.Debit ≡ Some answered.Posted → CoveredHere S e h a
-newly_posted S e h a t o once before others is posts =
-    let gain : Opening → ℕ = λ q. cond (is_account a.ac (account_at S q.terms.payer)) q.terms.amount 0 in
-    let f : Opening → ℕ = λ q. share S a.ac leg.Debit (answer S h q.terms.txn leg.Debit) q.terms in
-    let g : Opening → ℕ = λ q. cond (has_id t q) (gain q) 0 in
-    let le = sum_le (λ (q : Opening). share S a.ac leg.Debit (answer S (e ∷ h) q.terms.txn leg.Debit) q.terms) (λ (q : Opening). f q + g q)
-    (λ q. each (is_account a.ac (account_at S q.terms.payer)) (is_posted (answer S (e ∷ h) q.terms.txn leg.Debit)) (is_posted (answer S h q.terms.txn leg.Debit)) (has_id t q) q.terms.amount (others q.terms.txn)) (opened S h) in
-    let add = sum_add f g (opened S h) in
-    let at : sum_by g (opened S h) ≡ gain o = sum_at S t gain h ∙ ap (of_opening gain) is in
-    let room = covered S h a t o once is posts in
-    omega (arith, le, add, at, room, before)
-  where
-    each : (own p q mine : Bool) (n : ℕ) → (mine ≡ false → p ≡ q) → cond (own && p) n 0 ≤ cond (own && q) n 0 + cond mine (cond own n 0) 0
-    each false p q mine n k = omega arith
-    each true true q true n k = omega arith
-    each true false q true n k = omega arith
-    each true p q false n k = subst (λ (x : Bool). cond p n 0 ≤ cond x n 0 + 0) (k refl) (omega arith)
-
-debits_covered : (S : List SetupLine) (e : Entry) (h : List Entry) (a : Account) → IsNamedOnce S a → Covered S h a → CoveredHere S e h a
-debits_covered S e h a once before = go (debit_of (event_of h e.call)) refl
-  where
-    other : (t u : List ℕ) → debit_of (event_of h e.call) ≡ Some t → bytes_eq u t ≡ false → is_posted (answer S (e ∷ h) u leg.Debit) ≡ is_posted (answer S h u leg.Debit)
-    other t u is away = same_posted S e h u (λ arr. both_ways (bytes_eq u t) away ((bytes_eq-Decides u t).1 (some_same u t (sym arr ∙ is))))
-
-    everywhere : (t : List ℕ) → debit_of (event_of h e.call) ≡ Some t → is_posted (answer S (e ∷ h) t leg.Debit) ≡ is_posted (answer S h t leg.Debit) → (u : List ℕ) → is_posted (answer S (e ∷ h) u leg.Debit) ≡ is_posted (answer S h u leg.Debit)
-    everywhere t is here u = by (bytes_eq u t) refl
-      where
-        by : (b : Bool) → bytes_eq u t ≡ b → is_posted (answer S (e ∷ h) u leg.Debit) ≡ is_posted (answer S h u leg.Debit)
-        by true eq = subst (λ (x : List ℕ). is_posted (answer S (e ∷ h) x leg.Debit) ≡ is_posted (answer S h x leg.Debit)) (sym ((bytes_eq-Decides u t).0 eq)) here
-        by false eq = other t u is eq
-
-    cases : (t : List ℕ) → debit_of (event_of h e.call) ≡ Some t → (p q : Bool) → is_posted (answer S (e ∷ h) t leg.Debit) ≡ p → is_posted (answer S h t leg.Debit) ≡ q → CoveredHere S e h a
-    cases t is true true x y = all_same S e h a before (everywhere t is (x ∙ sym y))
-    cases t is false false x y = all_same S e h a before (everywhere t is (x ∙ sym y))
-    cases t is false true x y = all_same S e h a before (everywhere t is (absurd (stays (answer S h t leg.Debit) _ y x)))
-      where
-        stays : (o p : Option Answer) → is_posted o ≡ true → is_posted (option_or o p) ≡ false → ⊥
-        stays (Some answered.Posted) p k n = cc
-        stays (Some (answered.Declined c)) p k n = cc
-        stays None p k n = cc
-    cases t is true false x y = elim (or_cases (answer S h t leg.Debit) _ answered.Posted (posted_is (answer S (e ∷ h) t leg.Debit) x)) [
-      | inl old ↦ absurd (both_ways (is_posted (answer S h t leg.Debit)) y (ap is_posted old))
-      | inr come ↦
-          let p = (if_some (arrives t leg.Debit (is_closed h) (reversal_due S t h) (event_of h e.call)) (post S (opened S h) (answer S h) t leg.Debit) answered.Posted come.1).1 in
-          option_and_then_some (λ (o : Opening). post_leg S (opened S h) (answer S h) o.terms leg.Debit) (opening S t h) answered.Posted p (λ o at _. newly_posted S e h a t o once before (λ u away. other t u is away) at p)
-    ]
-
-    go : (o : Option (List ℕ)) → debit_of (event_of h e.call) ≡ o → CoveredHere S e h a
-    go None is = all_same S e h a before (λ t. same_posted S e h t (λ arr. let z : ◌≡◌ {A = Option (List ℕ)} None (Some t) = sym is ∙ arr in cc))
-    go (Some t) is = cases t is (is_posted (answer S (e ∷ h) t leg.Debit)) (is_posted (answer S h t leg.Debit)) refl refl
+debits_covered : (S : List SetupLine) (e : Entry) (h : List Entry) (a : Account) → IsNamedOnce S a → Covered S h a
+    → total S (opened S h) (answer S (e ∷ h)) a.ac leg.Debit ≤ a.opening + total S (opened S h) (answer S h) a.ac leg.Reversal + total S (opened S h) (answer S h) a.ac leg.Credit
+debits_covered S e h a once before = elim (posts_one S e h leg.Debit debit_forth) [
+  | inl nothing ↦ let n = nothing a.ac in omega (arith, n, before)
+  | inr one ↦ let room = covered S h a one.t one.o once one.begun one.posts in let g = one.gains a.ac in omega (arith, g, room, before)
+]
 
 pub all_covered : (S : List SetupLine) (h : List Entry) (a : Account) → IsNamedOnce S a → Covered S h a
 all_covered S [] a once = omega arith

@@ -19,3 +19,5 @@ pub mod Ints
 pub mod Conserved
 pub mod Settled
 pub mod Waits
+pub mod Bounded
+pub mod Posted

@@ -9,10 +9,11 @@ use Rattle.upi_base.specs.declared.code.Leg.TheVariants as leg
 use Rattle.upi_base.specs.declared.code.Code.{Code}
 use Rattle.upi_base.specs.declared.code.Answer.{Answer}
 use Rattle.upi_base.specs.declared.code.Outcome.{Outcome}
+use Rattle.upi_base.specs.declared.setup.AccountRef.{AccountRef}
 use Rattle.upi_base.specs.declared.setup.Account.{Account}
 use Rattle.upi_base.specs.declared.setup.SetupLine.{SetupLine}
 use Rattle.upi_base.specs.Lists.{joined}
-use Rattle.upi_base.specs.Setup.{account_at}
+use Rattle.upi_base.specs.Setup.{account_at, is_setup}
 use Rattle.upi_laws.specs.declared.event.Said.{Said}
 use Rattle.upi_laws.specs.declared.event.Said.TheVariants as said
 use Rattle.upi_laws.specs.declared.event.Event.{Event}
@@ -25,7 +26,8 @@ use Rattle.upi_laws.specs.declared.places.LegEnd.TheVariants as ended
 use Rattle.upi_laws.specs.History.{first, is_closed, event_of}
 use Rattle.upi_laws.specs.Places.{one_account, in_shard, opens, opened, if_of, opening, decides, decision, ends, due_debit, debit, due_credit, credit, cause, reverses, reversal}
 use Rattle.upi_laws.specs.Outcomes.{outcome_of}
-use Rattle.upi_laws.specs.Postings.{arrival, answer, arrives, reversal_due, balance}
+use Rattle.upi_laws.specs.Postings.{Answers, total, arrival, answer, arrives, reversal_due, balance}
+use Rattle.upi_laws.specs.Settlement.{accounts}
 use Rattle.upi_laws.specs.Dues.{acknowledges, acknowledged}
 use Rattle.upi_laws.specs.Legal.{IsRight, Legal, LegalForward}
 
@@ -201,6 +203,20 @@ IsNoFirstArrival S e before = (t : List ℕ) (l : Leg) → arrives t l (is_close
 -- only a first arrival changes a balance
 abbrev pub OnlyArrivalsMove : Type 0
 OnlyArrivalsMove = (S : List SetupLine) (e : Entry) (before : List Entry) → IsNoFirstArrival S e before → (a : Account) → balance S a (e ∷ before) ≡ balance S a before
+
+-- an account never pays more than it has
+abbrev pub DebitsAreCovered : Type 0
+DebitsAreCovered = (S : List SetupLine) (h : List Entry) → is_setup S ≡ true
+    → AllByRecursion (λ (a : Account). total S (opened S h) (answer S h) a.ac leg.Debit ≤ a.opening + total S (opened S h) (answer S h) a.ac leg.Reversal + total S (opened S h) (answer S h) a.ac leg.Credit) (accounts S)
+
+-- a balance passes the cap by what was returned alone
+abbrev pub BalancesAreCapped : Type 0
+BalancesAreCapped = (S : List SetupLine) (h : List Entry) → is_setup S ≡ true
+    → AllByRecursion (λ (a : Account). a.opening ≤ 1_000_000_000_000_000 → balance S a h ≤ 1_000_000_000_000_000 + total S (opened S h) (answer S h) a.ac leg.Reversal) (accounts S)
+
+-- all payments together are at most 65,536 times the greatest amount
+abbrev pub TotalsAreBounded : Type 0
+TotalsAreBounded = (S : List SetupLine) (h : List Entry) (answers : Answers) (ac : AccountRef) (l : Leg) → total S (opened S h) answers ac l ≤ 65_536_000_000_000
 
 -- ---- legal histories
 

@@ -1,5 +1,5 @@
 //! The laws of histories, each as a function with an empty body: its contract is the law.
-ghost use Rattle.upi_laws.specs.Laws.{AllPlacesStay, OpeningsGrow, OutcomeStays, AllPlacesFollow, OpeningsAreFound, OpeningIsNamed, OpeningIsFirst, OpeningsAreAllowed, ShardsHaveRoom, OpeningsHaveRoom, RunningIsUncut, ClosedHaveOutcomes, OneEntryAdds, AtMostOneComes, OthersAreUntouched, ClosedIsUntouched, ClosedAnswersStand, LegalBefore, LegalAt, LegalMore, LegalBothWays, LegalForwardMore, OnlyArrivalsMove, ArrivedIsAnswered};
+ghost use Rattle.upi_laws.specs.Laws.{AllPlacesStay, OpeningsGrow, OutcomeStays, AllPlacesFollow, OpeningsAreFound, OpeningIsNamed, OpeningIsFirst, OpeningsAreAllowed, ShardsHaveRoom, OpeningsHaveRoom, RunningIsUncut, ClosedHaveOutcomes, OneEntryAdds, AtMostOneComes, OthersAreUntouched, ClosedIsUntouched, ClosedAnswersStand, LegalBefore, LegalAt, LegalMore, LegalBothWays, LegalForwardMore, OnlyArrivalsMove, ArrivedIsAnswered, DebitsAreCovered, BalancesAreCapped, TotalsAreBounded};
 ghost use Rattle.upi_laws.specs.Sound.{LegalTells, LegalPostsOnce, LegalApproves, LegalKeepsMoney, LegalClosesSound, LegalIsSound};
 
 /// A place that was found stays found, whatever comes later.
@@ -155,4 +155,19 @@ pub fn legal_closes_sound()
 /// Every legal history over an accepted setup is sound.
 pub fn legal_is_sound()
     ensures { LegalIsSound }
+{}
+
+/// An account never pays more than it has: the subtraction in a balance is exact.
+pub fn debits_are_covered()
+    ensures { DebitsAreCovered }
+{}
+
+/// A balance passes 10^15 paise by what was returned to it alone.
+pub fn balances_are_capped()
+    ensures { BalancesAreCapped }
+{}
+
+/// What a leg of all payments moves at an account is at most 65,536 times the greatest amount.
+pub fn totals_are_bounded()
+    ensures { TotalsAreBounded }
 {}
