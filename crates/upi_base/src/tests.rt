@@ -55,6 +55,28 @@ fn copies(rt: HostRuntime) {
 }
 
 #[test]
+fn copies_of_what_was_heard(rt: HostRuntime) -> Result<(), Fail> {
+    let (Some(msg_id), Some(org), Some(txn), Some(psp), Some(ts)) = (
+        MsgId::read(b"M1"),
+        OrgId::read(b"alpha"),
+        TxnId::read(b"T1"),
+        PspName::read(b"alpha"),
+        Moment::of(0),
+    ) else {
+        assert!(rt; false);
+        return Ok(());
+    };
+    let req_msg = msg_id.copy();
+    let head = Head { msg_id, org, ts };
+    let answer = ConfResp { head, req_msg, txn };
+    let message = Message::Confirmed(Boxed::new(rt.alloc(), answer)?);
+    let input = Input::Good(message);
+    let call = Call::Hear { psp, input };
+    assert!(rt; call.copy(rt.alloc())? == call);
+    Ok(())
+}
+
+#[test]
 fn sums(rt: HostRuntime) -> Result<(), Fail> {
     let rows = [
         (b"7.5".as_slice(), Some(750), b"7.50".as_slice()),
