@@ -2,3 +2,5 @@ pub mod Messages
 pub mod Totals
 pub mod Steps
 pub mod Says
+pub mod Addresses
+pub mod Sends

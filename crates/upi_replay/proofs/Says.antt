@@ -35,7 +35,7 @@ use Rattle.upi_replay.specs.Rows.{row_if, row_at, row_of, rows_of, openings, ord
 use Rattle.upi_replay.proofs.Steps.{openings_of, post_is, undecided}
 
 -- the row of a name is that of the opening of the name
-row_at_is : (S : List SetupLine) (h : List Entry) (t : List ℕ) (os : List Opening) → row_at (map (row_of S h) os) t ≡ option_map (row_of S h) (pick (if_of t) os)
+pub row_at_is : (S : List SetupLine) (h : List Entry) (t : List ℕ) (os : List Opening) → row_at (map (row_of S h) os) t ≡ option_map (row_of S h) (pick (if_of t) os)
 row_at_is S h t [] = refl
 row_at_is S h t (o ∷ os) = one_more (has_id t o) (row_at_is S h t os)
   where
@@ -71,7 +71,7 @@ says_none S h t n =
       due = λ open'. sym (due_open S t h open' ∙ ap (λ (o : Option Opening). due_by o (outcome_of S t h) (decision S t h) (debit S t h) (cause_by (debit S t h) (credit S t h)) (last_sent (orders t leg.Reversal) h) (due_confirm (count_by (confirms t) (sent h)) (last_sent (confirms t) h) (acknowledged S t h))) n);
     }
 
-says_named : (S : List SetupLine) (h : List Entry) (o : Opening) → opening S o.terms.txn h ≡ Some o → Says S h o.terms.txn (Some (row_of S h o))
+pub says_named : (S : List SetupLine) (h : List Entry) (o : Opening) → opening S o.terms.txn h ≡ Some o → Says S h o.terms.txn (Some (row_of S h o))
 says_named S h o is = record {
   opening = sym is;
   decision = refl;
@@ -84,6 +84,7 @@ says_named S h o is = record {
   where
     t : List ℕ
     t = o.terms.txn
+
     ordered : (l : Leg) → order_answer_in S (rows_of S h) (Some (row_of S h o)) l ≡ order_answer S h o.terms.txn l
     ordered leg.Debit = ap (λ (x : Option Answer). option_or (answer S h o.terms.txn leg.Debit) x) (sym (post_is S h o leg.Debit is))
     ordered leg.Credit = ap (λ (x : Option Answer). option_or (answer S h o.terms.txn leg.Credit) x) (sym (post_is S h o leg.Credit is))

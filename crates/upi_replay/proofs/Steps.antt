@@ -144,9 +144,9 @@ rows_more S e h =
     let ev = event_of h e.call in
     map_joined (row_of S (e ∷ h)) (opened S h) (opens S (opened S h) (is_closed h) ev e.at)
     ∙ (λ i. joined
-      ((map_same (row_of S (e ∷ h)) (λ (o : Opening). row_after S (rows_of S h) (is_closed h) ev e.at (row_of S h o)) (λ (o : Opening). opening S o.terms.txn h ≡ Some o) (row_more S e h) (opened S h) (openings_are_found S h)
-      ∙ map_twice (row_after S (rows_of S h) (is_closed h) ev e.at) (row_of S h) (opened S h)) i)
-      ((opened_more S e h (opens S (opened S h) (is_closed h) ev e.at) refl ∙ ap (λ (os : List Opening). opened_row (opens S os (is_closed h) ev e.at)) (sym (openings_of S h))) i))
+    ((map_same (row_of S (e ∷ h)) (λ (o : Opening). row_after S (rows_of S h) (is_closed h) ev e.at (row_of S h o)) (λ (o : Opening). opening S o.terms.txn h ≡ Some o) (row_more S e h) (opened S h) (openings_are_found S h)
+    ∙ map_twice (row_after S (rows_of S h) (is_closed h) ev e.at) (row_of S h) (opened S h)) i)
+    ((opened_more S e h (opens S (opened S h) (is_closed h) ev e.at) refl ∙ ap (λ (os : List Opening). opened_row (opens S os (is_closed h) ev e.at)) (sym (openings_of S h))) i))
 
 -- the step
 pub found_more : (S : List SetupLine) (h : List Entry) (e : Entry) (f : Found) (rows' : List Row) (closed' : Bool) → IsFound S h f

@@ -21,7 +21,7 @@ pub struct Found {
     pub closed: bool,
 }
 
-fn or_decided(before: Option<Decision>, now: Option<Decision>) -> Option<Decision>
+pub(crate) fn or_decided(before: Option<Decision>, now: Option<Decision>) -> Option<Decision>
     ensures { result ≡ option_or before now }
 {
     match before {
@@ -30,7 +30,7 @@ fn or_decided(before: Option<Decision>, now: Option<Decision>) -> Option<Decisio
     }
 }
 
-fn or_ended(before: Option<LegEnd>, now: Option<LegEnd>) -> Option<LegEnd>
+pub(crate) fn or_ended(before: Option<LegEnd>, now: Option<LegEnd>) -> Option<LegEnd>
     ensures { result ≡ option_or before now }
 {
     match before {
@@ -39,7 +39,7 @@ fn or_ended(before: Option<LegEnd>, now: Option<LegEnd>) -> Option<LegEnd>
     }
 }
 
-fn or_at(before: Option<Moment>, now: Option<Moment>) -> Option<Moment>
+pub(crate) fn or_at(before: Option<Moment>, now: Option<Moment>) -> Option<Moment>
     ensures { result ≡ option_or before now }
 {
     match before {

@@ -9,7 +9,7 @@ use crate::rules::{accounts_agree, asked, due_answer, has_txn, refusal, same_leg
 use upi_base::{Answer, Code, Leg, Moment, Outcome, PspName, SetupLine, TxnId};
 use upi_laws::{AuthWord, Decision, Event, LegEnd, Opening, Said};
 
-fn opens_said(
+pub(crate) fn opens_said(
     setup: &[SetupLine],
     rows: &[Row],
     now: Moment,
@@ -74,7 +74,11 @@ fn answers_in_time(
 fn yes_or_no(yes: bool, now: Moment) -> Decision
     ensures { result ≡ yes_or_no_of yes now }
 {
-    if yes { Decision::Yes(now) } else { Decision::No }
+    if yes {
+        Decision::Yes(now)
+    } else {
+        Decision::No
+    }
 }
 
 fn decides_said(

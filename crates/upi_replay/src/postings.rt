@@ -7,8 +7,10 @@ ghost use Rattle.upi_replay.specs.Rows.{answered as answered_of, row_share as ro
 
 use crate::rows::{Row, cause_from, due_debit};
 use crate::rules::same_leg;
-use upi_base::{Account, AccountRef, Addr, Answer, Code, Leg, PayReq, SetupLine, TxnId};
-use upi_base::{account_at, same_account};
+use upi_base::{
+    Account, AccountRef, Addr, Answer, Code, Leg, PayReq, SetupLine, TxnId, account_at,
+    same_account,
+};
 use upi_laws::Event;
 
 /// Whether a reversal arrives for a row at the close.

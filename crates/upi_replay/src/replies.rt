@@ -4,7 +4,6 @@ ghost use Rattle.std.specs.Option.{option_copied};
 ghost use Rattle.upi_laws.specs.Replies.{repeats as repeats_of, reply_pay as reply_pay_of, reply_decided as reply_decided_of, reply_auth as reply_auth_of, reply_check as reply_check_of, reply_confirmed as reply_confirmed_of, late_answer as late_answer_of, reply_order as reply_order_of, reply_to as reply_to_of};
 ghost use Rattle.upi_replay.specs.Rows.{openings, opening_in, decision_in, debit_in, credit_in, outcome_in, past, reply_answered_in, reply_closed_in, reply_closed_on_in, reply_closed_said_in, reply_heard_in, reply_in};
 
-
 use crate::dues::is_due;
 use crate::events::event_of;
 use crate::found::Found;
@@ -194,9 +193,7 @@ impl Found {
     {
         match what {
             Said::Pay(r) => reply_pay(setup, &self.rows, psp, r, row_at(&self.rows, &r.txn)),
-            Said::Auth(word) => {
-                reply_auth(setup, psp, word, now, row_at(&self.rows, &word.txn))
-            }
+            Said::Auth(word) => { reply_auth(setup, psp, word, now, row_at(&self.rows, &word.txn)) }
             Said::Check(txn) => reply_check(psp, row_at(&self.rows, txn)),
             Said::Confirmed(txn) => reply_confirmed(psp, row_at(&self.rows, txn)),
             Said::Foreign => Reply::Ack(Some(Code::NotYours)),
@@ -204,13 +201,7 @@ impl Found {
     }
 
     /// The reply to an event, before the close.
-    fn reply_on(
-        &self,
-        setup: &[SetupLine],
-        history: &[Entry],
-        event: &Event,
-        now: Moment,
-    ) -> Reply
+    fn reply_on(&self, setup: &[SetupLine], history: &[Entry], event: &Event, now: Moment) -> Reply
         ensures { result ≡ reply_in setup.now self.now.rows.items (past history.now) event.now now }
     {
         match event {

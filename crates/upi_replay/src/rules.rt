@@ -2,21 +2,22 @@
 ghost use Rattle.std.specs.Prelude.{◌≡◌, List, ℕ};
 ghost use Rattle.std.specs.Option.{option_copied};
 ghost use Rattle.std.specs.List.{list_any, count_by};
-ghost use Rattle.upi_laws.specs.Places.{same_leg as same_leg_of, same_kind as same_kind_of, asking as asking_of, asked as asked_of, agrees as agrees_of, one_account as one_account_of, has_id, in_shard, refusal as refusal_of, minutes as minutes_of, due_from as due_from_of, due_answer as due_answer_of, accounts_agree as accounts_agree_of};
+ghost use Rattle.upi_laws.specs.Places.{side as side_of, same_leg as same_leg_of, same_kind as same_kind_of, asking as asking_of, asked as asked_of, agrees as agrees_of, one_account as one_account_of, has_id, in_shard, refusal as refusal_of, minutes as minutes_of, due_from as due_from_of, due_answer as due_answer_of, accounts_agree as accounts_agree_of};
 ghost use Rattle.upi_replay.specs.Rows.{openings};
 
 use crate::rows::Row;
-use upi_base::{Account, AccountRef, Addr, Code, Kind, Leg, PayReq, SetupLine, TxnId};
-use upi_base::{account_at, provider, same_account, txn_shard};
+use upi_base::{
+    Account, AccountRef, Addr, Code, Kind, Leg, PayReq, SetupLine, TxnId, account_at, provider,
+    same_account, txn_shard,
+};
 use upi_laws::{AuthWord, Opening};
 
 pub(crate) fn same_leg(a: Leg, b: Leg) -> bool
     ensures { result ≡ same_leg_of a b }
 {
     match (a, b) {
-        (Leg::Debit, Leg::Debit)
-        | (Leg::Credit, Leg::Credit)
-        | (Leg::Reversal, Leg::Reversal) => true,
+        (Leg::Debit, Leg::Debit) | (Leg::Credit, Leg::Credit) | (Leg::Reversal, Leg::Reversal) =>
+            true,
         _ => false,
     }
 }
@@ -32,7 +33,7 @@ pub(crate) fn same_kind(a: Kind, b: Kind) -> bool
 
 /// Of two addresses, that of the side that asks.
 pub(crate) fn side<'a>(kind: Kind, payer: &'a Addr, payee: &'a Addr) -> &'a Addr
-    ensures { result.now ≡ Rattle.upi_laws.specs.Places.side kind payer.now payee.now }
+    ensures { result.now ≡ side_of kind payer.now payee.now }
 {
     match kind {
         Kind::Pay => payer,
@@ -40,18 +41,32 @@ pub(crate) fn side<'a>(kind: Kind, payer: &'a Addr, payee: &'a Addr) -> &'a Addr
     }
 }
 
+/// The address of the side that asks.
+pub(crate) fn asking_addr(r: &PayReq) -> &Addr
+    ensures { result.now ≡ side_of r.now.kind r.now.payer r.now.payee }
+{
+    side(r.kind, &r.payer, &r.payee)
+}
+
+/// The address of the side that is asked.
+pub(crate) fn asked_addr(r: &PayReq) -> &Addr
+    ensures { result.now ≡ side_of r.now.kind r.now.payee r.now.payer }
+{
+    side(r.kind, &r.payee, &r.payer)
+}
+
 /// The PSP of the side that asks.
 pub(crate) fn asking(r: &PayReq) -> &[u8]
     ensures { result.now ≡ asking_of r.now }
 {
-    provider(side(r.kind, &r.payer, &r.payee).bytes())
+    provider(asking_addr(r).bytes())
 }
 
 /// The PSP of the side that is asked.
 pub(crate) fn asked(r: &PayReq) -> &[u8]
     ensures { result.now ≡ asked_of r.now }
 {
-    provider(side(r.kind, &r.payee, &r.payer).bytes())
+    provider(asked_addr(r).bytes())
 }
 
 fn agrees(given: &Option<AccountRef>, account: &Option<Account>) -> bool
@@ -96,12 +111,7 @@ pub(crate) fn has_txn(rows: &[Row], txn: &TxnId) -> bool
 }
 
 /// The first rule that a payment breaks, of a PSP that asks for it.
-pub(crate) fn refusal(
-    setup: &[SetupLine],
-    rows: &[Row],
-    psp: &[u8],
-    r: &PayReq,
-) -> Option<Code>
+pub(crate) fn refusal(setup: &[SetupLine], rows: &[Row], psp: &[u8], r: &PayReq) -> Option<Code>
     ensures { result ≡ refusal_of setup.now (openings rows.now) psp.now r.now }
 {
     let payer = account_at(setup, &r.payer);
