@@ -27,7 +27,7 @@ pub(crate) fn entry_of(
     ensures { IfOk result (λ e. e ≡ entry_of_call setup.now (past history.now) call now) }
 {
     let reply = found.reply(setup, history, &call, now);
-    let sent = upi_base::SentList::new(alloc);
+    let sent = found.sends(alloc, setup, history, &call, now)?;
     Ok(Entry {
         call,
         at: now,
