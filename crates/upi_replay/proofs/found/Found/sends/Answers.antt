@@ -2,7 +2,7 @@ use Rattle.std.proofs.Common.{List, ◌++◌, ◌∙◌, ap}
 use Rattle.upi_base.specs.declared.sent.Sent.{Sent}
 use Rattle.upi_replay.specs.Rows.{past}
 use Rattle.upi_replay.specs.Sends.{sent_on_in, receiver_answers_in}
-use Rattle.upi_replay.proofs.Sends.{sent_open, sent_closed}
+use Rattle.upi_replay.proofs.Sends.{sent_open}
 use Rattle.upi_replay.proofs.found.Found.sends.Goals as goal
 
 pub returns : goal.returns
