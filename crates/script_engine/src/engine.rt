@@ -72,3 +72,54 @@ impl Engine {
         }
     }
 }
+
+impl Engine {
+    ghost use Rattle.std.specs.Prelude.{◌≡◌, ◌++◌, ◌+◌, true, ◌∷◌, OnOk, IfOk};
+    ghost use Rattle.upi_base.specs.declared.entry.Entry.{Entry as AnEntry};
+    ghost use Rattle.upi_laws.specs.Legal.{may_come};
+    ghost use Rattle.script_engine.specs.Play.{now_of, put_call, try_call as try_call_of, script_read};
+    ghost use Rattle.script_engine.specs.Kept.{IsNext, IsKnown};
+
+    /// The current moment: that of START, and the first of all where there is none.
+    fn now(&self) -> Moment
+        ensures { result ≡ now_of self.now }
+    {
+        match self.setup.start() {
+            Some(start) => start,
+            None => Moment::of(0).unwrap(),
+        }
+    }
+
+    /// What a line says, or why it is refused.
+    fn read(&self, line: &[u8]) -> Result<Result<ScriptRead, Refusal>, NoMemory>
+        ensures read { IfOk result (λ r. r ≡ script_read self.now line.now) }
+        ensures known { IfOk result (λ r. IfOk r (IsKnown self.now.setup.lines)) }
+    {
+        if self.ready {
+            call_part(self.alloc, self.setup.lines(), self.sends, self.closes, line)
+        } else {
+            Ok(setup_part(&self.setup, line))
+        }
+    }
+
+    /// Appends the entry of a call that may come, and writes it. `next` is the next message to be
+    /// delivered behind it.
+    fn put(&mut self, call: Call, next: u64, out: &mut Vec<u8>) -> Result<(), NoMemory>
+        requires comes { may_come self.old.setup.lines self.old.history call ≡ true }
+        requires next { (e : AnEntry) → e.call ≡ call → IsNext (e ∷ self.old.history) next }
+        requires started { self.old.ready ≡ true }
+        ensures { OnOk result ((self.new ≡ (put_call self.old call).play) × (out.new.items ≡ out.old.items ++ (put_call self.old call).text)) }
+    {
+        let now = self.now();
+        let lines = self.setup.lines();
+        let entry = entry_of(self.alloc, lines, &self.history, &self.found, call, now)?;
+        let found = self.found.with(self.alloc, lines, &self.history, &entry.call, now)?;
+        let place = self.history.len() as u64 + 1;
+        let messages = write_entry(self.alloc, &entry, place, self.messages, out)?;
+        self.history.push(entry)?;
+        self.found = found;
+        self.messages = messages;
+        self.next = next;
+        Ok(())
+    }
+}

@@ -1,5 +1,7 @@
 //! What a line of a script says.
-ghost use Rattle.std.specs.Prelude.{◌≡◌, IfOk, List, true};
+ghost use Rattle.std.specs.Prelude.{◌≡◌, IfOk, List, true, option_map};
+ghost use Rattle.upi_base.specs.declared.message.Message.TheVariants as message;
+ghost use Rattle.upi_msg.specs.Plain.{plain_in};
 ghost use Rattle.upi_base.specs.Setup.{has_psp};
 ghost use Rattle.script_engine.specs.Kept.{IsKnown};
 ghost use Rattle.std.specs.Str.{bytes_eq, is_utf8 as is_utf8_of};
@@ -164,6 +166,14 @@ fn sent_line(sends: u32, psp: PspName, message: Option<Message>) -> Result<Scrip
     }
 }
 
+/// The plain payment that a text is the written form of.
+fn plain(alloc: Global, text: &[u8]) -> Result<Option<Message>, NoMemory>
+    ensures { IfOk result (λ o. o ≡ option_map message.Pay (plain_in text.now)) }
+{
+    let message = read_plain(alloc, text)?;
+    Ok(message)
+}
+
 #[tactic(auto, unfolding(crate::specs::Script::send_line))]
 fn send_line(
     alloc: Global,
@@ -181,7 +191,7 @@ fn send_line(
     match sender(lines, line) {
         Err(refusal) => Ok(Err(refusal)),
         Ok(psp) => {
-            let message = read_plain(alloc, text)?;
+            let message = plain(alloc, text)?;
             Ok(sent_line(sends, psp, message))
         }
     }
