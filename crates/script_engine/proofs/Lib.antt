@@ -1,3 +1,4 @@
 pub mod Plains
 pub mod Nexts
 pub mod Keeping
+pub mod Turns

@@ -1,5 +1,5 @@
 -- What an engine keeps beside its play.
-use Rattle.std.specs.Prelude.{◌≡◌, ℕ, ◌+◌, ◌<◌, ◌≤◌, ◌^◌, Bool, true, false, List, []}
+use Rattle.std.specs.Prelude.{◌≡◌, ℕ, ◌+◌, ◌<◌, ◌≤◌, ◌^◌, Bool, true, false, List, [], ◌++◌, Result, Ok, Err}
 use Rattle.upi_base.specs.declared.entry.Entry.{Entry}
 use Rattle.upi_base.specs.declared.entry.Call.{Call}
 use Rattle.upi_base.specs.declared.setup.SetupLine.{SetupLine}
@@ -10,7 +10,13 @@ use Rattle.upi_replay.specs.Rows.{IsFound}
 use Rattle.upi_text.specs.Journal.{sent_count}
 use Rattle.script_engine.specs.declared.line.ScriptRead.{ScriptRead}
 use Rattle.script_engine.specs.declared.line.ScriptRead.TheVariants as says
-use Rattle.script_engine.specs.Play.{is_taken}
+use Rattle.upi_text.specs.Refusals.{refusal}
+use Rattle.script_engine.specs.declared.engine.Turn.{Turn}
+use Rattle.script_engine.specs.declared.engine.Turn.TheVariants as turn
+use Rattle.script_engine.specs.declared.engine.EngineFault.{EngineFault}
+use Rattle.script_engine.specs.declared.engine.EngineFault.TheVariants as fault
+use Rattle.script_engine.specs.Script.{max_sends}
+use Rattle.script_engine.specs.Play.{Play, Played, is_taken, lowest_pending, run_turn, run_turns, run_all, after_text, play_line}
 
 -- each message below this number was taken, and none from it on
 pub record IsNext (h : List Entry) (number : ℕ) : Type 0 where
@@ -27,9 +33,40 @@ pub record IsKept (S : List SetupLine) (ready : Bool) (h : List Entry) (f : Foun
   pub legal : Legal S h
   pub started : ready ≡ false → h ≡ []
 
--- the PSP of a SEND line is of the setup
-abbrev pub IsKnown : List SetupLine → ScriptRead → Type 0
-IsKnown S (says.Setup r) = Unit {0}
-IsKnown S (says.Send psp m) = has_psp S psp ≡ true
-IsKnown S says.Run = Unit {0}
-IsKnown S says.Close = Unit {0}
+-- The PSP of a SEND line is of the setup, and fewer payments were sent than a script may send.
+abbrev pub IsKnown : List SetupLine → ℕ → ScriptRead → Type 0
+IsKnown S sends (says.Setup r) = Unit {0}
+IsKnown S sends (says.Send psp m) = (has_psp S psp ≡ true) × (sends < max_sends)
+IsKnown S sends says.Run = Unit {0}
+IsKnown S sends says.Close = Unit {0}
+
+-- a line of the setup
+abbrev pub IsSetupLine : ScriptRead → Type 0
+IsSetupLine (says.Setup r) = Unit {0}
+IsSetupLine (says.Send psp m) = ⊥
+IsSetupLine says.Run = ⊥
+IsSetupLine says.Close = ⊥
+
+-- what a line says may be played
+abbrev pub MayPlay : Play → ScriptRead → Type 0
+MayPlay p (says.Setup r) = Unit {0}
+MayPlay p (says.Send psp m) = (p.ready ≡ true) × (has_psp p.setup.lines psp ≡ true) × (p.sends < max_sends)
+MayPlay p says.Run = p.ready ≡ true
+MayPlay p says.Close = p.ready ≡ true
+
+-- one turn of RUN: it goes on with what follows, or it has stopped
+abbrev pub TurnAnswer : Play → List ℕ → List ℕ → Play → Turn → Type 0
+TurnAnswer p before after new turn.Went = (t : List ℕ) × (after ≡ before ++ t) × ((go : Play → Played) → run_turn go p (lowest_pending p.history) ≡ after_text t (go new))
+TurnAnswer p before after new turn.Stopped = (t : List ℕ) × (after ≡ before ++ t) × ((go : Play → Played) → run_turn go p (lowest_pending p.history) ≡ record { play = new; text = t })
+
+-- so much of RUN is done: the text so far, and the turns that are left
+pub record IsRunning (p : Play) (before after : List ℕ) (now : Play) (left : ℕ) : Type 0 where
+  pub text : List ℕ
+  pub wrote : after ≡ before ++ text
+  pub goes_on : run_all p ≡ after_text text (run_turns left now)
+
+-- what a line of a script does to an engine, and writes
+abbrev pub LineAnswer : Play → List ℕ → List ℕ → List ℕ → Play → Result (Unit {0}) EngineFault → Type 0
+LineAnswer p line before after new (Ok u) = (q : Played) × (play_line p line ≡ Ok q) × (after ≡ before ++ q.text) × (new ≡ q.play)
+LineAnswer p line before after new (Err (fault.Bad field why)) = (play_line p line ≡ Err (refusal field why)) × (after ≡ before) × (new ≡ p)
+LineAnswer p line before after new (Err fault.NoMemory) = Unit {0}

@@ -7,6 +7,7 @@ use Rattle.upi_base.specs.declared.entry.Entry.{Entry}
 use Rattle.upi_base.specs.declared.entry.Call.{Call}
 use Rattle.upi_base.specs.declared.entry.Call.TheVariants as call
 use Rattle.upi_base.specs.declared.message.Input.TheVariants as input
+use Rattle.upi_base.specs.declared.message.Message.{Message}
 use Rattle.upi_base.specs.declared.setup.SetupLine.{SetupLine}
 use Rattle.upi_laws.specs.History.{sent, is_closed}
 use Rattle.upi_laws.specs.Replies.{reply_to}
@@ -102,11 +103,15 @@ abbrev pub is_open_line : SetupRead → Bool
 is_open_line read.Open = true
 is_open_line _ = false
 
-abbrev pub with_send : Played → Played
-with_send q = record { play = record (q.play) { sends = q.play.sends + 1 }; text = q.text }
+-- SEND
+abbrev pub send : Play → List ℕ → Message → Played
+send p psp m =
+    let q = try_call p (call.Hear psp (input.Good m)) in
+    record { play = record (q.play) { sends = q.play.sends + 1 }; text = q.text }
 
-abbrev pub with_close : Played → Played
-with_close q = record { play = record (q.play) { closes = true }; text = q.text }
+-- CLOSE
+abbrev pub close : Play → Played
+close p = let q = try_call p call.Close in record { play = record (q.play) { closes = true }; text = q.text }
 
 -- a line of the setup is taken
 abbrev pub take_setup : Play → SetupRead → Played
@@ -115,9 +120,9 @@ take_setup p r = record { play = record p { setup = state_after p.setup r; ready
 -- What a line does. Behind OPEN the setup has no more lines: only lines that are passed over count as its.
 abbrev pub played : Play → ScriptRead → Played
 played p (says.Setup r) = if p.ready then record { play = p; text = [] } else take_setup p r
-played p (says.Send psp m) = with_send (try_call p (call.Hear psp (input.Good m)))
+played p (says.Send psp m) = send p psp m
 played p says.Run = run_all p
-played p says.Close = with_close (try_call p call.Close)
+played p says.Close = close p
 
 -- what a line says at this point, or why it is refused
 abbrev pub script_read : Play → List ℕ → Result ScriptRead Refusal

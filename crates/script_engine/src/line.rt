@@ -1,9 +1,9 @@
 //! What a line of a script says.
-ghost use Rattle.std.specs.Prelude.{◌≡◌, IfOk, List, true, option_map};
+ghost use Rattle.std.specs.Prelude.{◌≡◌, ℕ, IfOk, List, true, option_map};
 ghost use Rattle.upi_base.specs.declared.message.Message.TheVariants as message;
 ghost use Rattle.upi_msg.specs.Plain.{plain_in};
 ghost use Rattle.upi_base.specs.Setup.{has_psp};
-ghost use Rattle.script_engine.specs.Kept.{IsKnown};
+ghost use Rattle.script_engine.specs.Kept.{IsKnown, IsSetupLine};
 ghost use Rattle.std.specs.Str.{bytes_eq, is_utf8 as is_utf8_of};
 ghost use Rattle.upi_text.specs.Words.{words, number_of};
 ghost use Rattle.script_engine.specs.Script.{unbuilt as unbuilt_of, is_yes as is_yes_of, is_built_line as is_built_line_of, is_built as is_built_of, setup_part as setup_part_of, command_of as command_of_word, sender as sender_of, sent_line as sent_line_of, send_line as send_line_of, in_thousand as in_thousand_of, run_line as run_line_of, close_line as close_line_of, commanded as commanded_of, call_part as call_part_of};
@@ -96,7 +96,7 @@ fn is_built(read: &SetupRead) -> bool
 /// What a line says before OPEN was read.
 pub(crate) fn setup_part(setup: &SetupText, line: &[u8]) -> Result<ScriptRead, Refusal>
     ensures line { result ≡ setup_part_of setup.now line.now }
-    ensures known { (S : List SetupLine) → IfOk result (IsKnown S) }
+    ensures setup { IfOk result IsSetupLine }
 {
     let read = setup.read(line)?;
     if is_built(&read) {
@@ -152,7 +152,7 @@ fn sender(lines: &[SetupLine], line: &[u8]) -> Result<PspName, Refusal>
 
 fn sent_line(sends: u32, psp: PspName, message: Option<Message>) -> Result<ScriptRead, Refusal>
     ensures line { result ≡ sent_line_of sends psp message }
-    ensures known { (S : List SetupLine) → has_psp S psp ≡ true → IfOk result (IsKnown S) }
+    ensures known { (S : List SetupLine) → has_psp S psp ≡ true → IfOk result (IsKnown S sends) }
 {
     match message {
         None => Err(unbuilt()),
@@ -182,7 +182,7 @@ fn send_line(
     line: &[u8],
 ) -> Result<Result<ScriptRead, Refusal>, NoMemory>
     ensures line { IfOk result (λ r. r ≡ send_line_of lines.now sends line.now) }
-    ensures known { IfOk result (λ r. IfOk r (IsKnown lines.now)) }
+    ensures known { IfOk result (λ r. IfOk r (IsKnown lines.now sends)) }
 {
     let text = from_word(line, 2);
     if text.len() == 0 {
@@ -216,7 +216,7 @@ fn in_thousand(text: &[u8]) -> Option<u64>
 #[tactic(auto, unfolding(crate::specs::Script::run_line))]
 fn run_line(line: &[u8]) -> Result<ScriptRead, Refusal>
     ensures line { result ≡ run_line_of (words line.now) }
-    ensures known { (S : List SetupLine) → IfOk result (IsKnown S) }
+    ensures known { (S : List SetupLine) (n : ℕ) → IfOk result (IsKnown S n) }
 {
     let count = word_count(line);
     if count == 1 {
@@ -237,7 +237,7 @@ fn run_line(line: &[u8]) -> Result<ScriptRead, Refusal>
 #[tactic(auto, unfolding(crate::specs::Script::close_line))]
 fn close_line(closes: bool, line: &[u8]) -> Result<ScriptRead, Refusal>
     ensures line { result ≡ close_line_of closes (words line.now) }
-    ensures known { (S : List SetupLine) → IfOk result (IsKnown S) }
+    ensures known { (S : List SetupLine) (n : ℕ) → IfOk result (IsKnown S n) }
 {
     if word_count(line) != 1 {
         Err(Refusal::other_fields())
@@ -267,7 +267,7 @@ fn commanded(
     command: Option<Command>,
 ) -> Result<Result<ScriptRead, Refusal>, NoMemory>
     ensures line { IfOk result (λ r. r ≡ commanded_of lines.now sends closes line.now command) }
-    ensures known { IfOk result (λ r. IfOk r (IsKnown lines.now)) }
+    ensures known { IfOk result (λ r. IfOk r (IsKnown lines.now sends)) }
 {
     match command {
         None => Ok(Err(Refusal::no_command())),
@@ -287,7 +287,7 @@ pub(crate) fn call_part(
     line: &[u8],
 ) -> Result<Result<ScriptRead, Refusal>, NoMemory>
     ensures line { IfOk result (λ r. r ≡ call_part_of lines.now sends closes line.now) }
-    ensures known { IfOk result (λ r. IfOk r (IsKnown lines.now)) }
+    ensures known { IfOk result (λ r. IfOk r (IsKnown lines.now sends)) }
 {
     if is_skipped(line) {
         return Ok(Ok(ScriptRead::Setup(SetupRead::Skipped)));
