@@ -9,4 +9,4 @@ returns-clause-ok c = λ h found.
     let rows = ap (report_of_rows c.args.setup.now) c.deref.ensures.value in
     c.in_ok-extend_from_slice.ensures.items
     ∙ ap (λ t. c.args.out.now.items ++ t)
-      (c.deref-2.ensures.value ∙ (c.in_ok-push_report.ensures ∙ (start ∙ (rows ∙ report_is c.args.setup.now h c.args.found.now found))))
+    (c.deref-2.ensures.value ∙ (c.in_ok-push_report.ensures ∙ (start ∙ (rows ∙ report_is c.args.setup.now h c.args.found.now found))))
