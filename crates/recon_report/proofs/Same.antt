@@ -1,9 +1,8 @@
 -- The report by rows is that of the definitions.
-use Rattle.std.proofs.Common.{◌≡◌, ℕ, ◌+◌, ℤ, pos, Bool, true, false, List, [], ◌∷◌, ◌++◌, map, Option, Some, None, refl, sym, ◌∙◌, ap, append_assoc, append-nil, arith}
+use Rattle.std.proofs.Common.{◌≡◌, ℕ, pos, Bool, true, false, List, [], ◌∷◌, ◌++◌, map, Option, Some, refl, sym, ◌∙◌, ap, append-nil, arith}
 use Rattle.std.specs.Prelude.{is_some, ◌-ℤ◌, ◌&&◌, not, if◌then◌else◌}
 use Rattle.std.specs.List.{AllByRecursion, flat_map, sum_by}
 use Rattle.std.specs.Str.{bytes_eq}
-use Rattle.std.proofs.lemmas.List.Sums.{sum_by-cons, sum_by-append}
 use Rattle.std.proofs.lemmas.List.Concat.{flat_map-append}
 use Rattle.upi_base.specs.declared.code.Outcome.{Outcome}
 use Rattle.upi_base.specs.declared.entry.Entry.{Entry}
@@ -21,15 +20,15 @@ use Rattle.upi_laws.specs.declared.places.Opening.{Opening}
 use Rattle.upi_laws.specs.Places.{opened, opening, decision, debit, credit, reversal}
 use Rattle.upi_laws.specs.Outcomes.{outcome_by, outcome_of}
 use Rattle.upi_laws.specs.Postings.{answer, is_posted, balance, flight}
-use Rattle.upi_laws.specs.Settlement.{bank_at, is_settled, is_deemed, items_of, settle, received_in, paid_in, net, recon, unmatched, accounts, banks}
+use Rattle.upi_laws.specs.Settlement.{bank_at, is_settled, is_deemed, items_of, settle, received_in, paid_in, net, unmatched, accounts, banks}
 use Rattle.upi_laws.proofs.Openings.{openings_are_found}
 use Rattle.upi_laws.proofs.Sums.{sum_flat_map, sum_all}
 use Rattle.upi_replay.specs.declared.rows.Row.{Row}
 use Rattle.upi_replay.specs.declared.found.Found.{Found}
-use Rattle.upi_replay.specs.Rows.{row_of, rows_of, row_outcome, row_balance, IsFound}
+use Rattle.upi_replay.specs.Rows.{row_of, rows_of, row_outcome, IsFound}
 use Rattle.upi_replay.proofs.Steps.{balance_is, sum_map}
 use Rattle.recon_report.specs.Report.{header, outcome_line, outcome_lines, settle_line, settle_lines, net_line, net_lines, recon_line, recon_lines, balance_line, balance_lines, flight_line, report_text}
-use Rattle.recon_report.specs.ByRows.{row_outcome_line, paid_line, received_line, row_settle_lines, settle_lines_at, row_received, row_paid, rows_received, rows_paid, rows_net, net_line_at, row_unmatched, row_recon_line, balance_line_at, row_flight, rows_flight, report_of_rows}
+use Rattle.recon_report.specs.ByRows.{row_outcome_line, paid_line, received_line, row_settle_lines, settle_lines_at, row_received, row_paid, rows_received, rows_paid, rows_net, net_line_at, row_recon_line, balance_line_at, row_flight, rows_flight, report_of_rows}
 
 -- what is said of an opening that its name finds
 abbrev Finds : List SetupLine → List Entry → Opening → Type 0

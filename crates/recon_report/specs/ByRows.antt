@@ -1,5 +1,5 @@
 -- The report by what was found: a row a transaction, in opening order.
-use Rattle.std.specs.Prelude.{ℕ, ℤ, pos, ◌-ℤ◌, Bool, not, ◌&&◌, if◌then◌else◌, List, [], ◌∷◌, ◌++◌}
+use Rattle.std.specs.Prelude.{ℕ, ℤ, pos, ◌-ℤ◌, Bool, not, ◌&&◌, if◌then◌else◌, List, [], ◌++◌}
 use Rattle.std.specs.List.{flat_map, sum_by}
 use Rattle.std.specs.Str.{bytes_eq}
 use Rattle.upi_base.specs.declared.message.PayReq.{PayReq}

@@ -1,4 +1,4 @@
-use Rattle.std.proofs.Common.{List, ℕ, ◌≡◌, ◌++◌, ◌∷◌, [], refl, arith, to_z-of_z}
+use Rattle.std.proofs.Common.{List, ℕ, ◌≡◌, ◌++◌, ◌∷◌, [], refl, to_z-of_z}
 use Rattle.upi_base.specs.Money.{sum_text}
 use Rattle.recon_report.specs.Report.{line_text, field}
 use Rattle.recon_report.proofs.Joins.{both}

@@ -1,4 +1,4 @@
-use Rattle.std.proofs.Common.{◌≡◌, ◌++◌}
+use Rattle.std.proofs.Common.{◌++◌}
 use Rattle.std.specs.List.{flat_map}
 use Rattle.recon_report.specs.ByRows.{row_settle_lines}
 use Rattle.recon_report.proofs.Joins.{text_more}

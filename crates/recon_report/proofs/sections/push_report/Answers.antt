@@ -1,4 +1,4 @@
-use Rattle.std.proofs.Common.{List, ℕ, ◌≡◌, ◌++◌, ◌∙◌, ap}
+use Rattle.std.proofs.Common.{List, ℕ, ◌++◌, ◌∙◌, ap}
 use Rattle.std.specs.List.{flat_map}
 use Rattle.upi_base.specs.declared.setup.SetupLine.{SetupLine}
 use Rattle.upi_replay.specs.declared.rows.Row.{Row}

@@ -1,4 +1,4 @@
-use Rattle.std.proofs.Common.{List, ℕ, ◌≡◌, ◌∙◌, ◌++◌, ap}
+use Rattle.std.proofs.Common.{◌∙◌, ◌++◌, ap}
 use Rattle.recon_report.specs.ByRows.{report_of_rows}
 use Rattle.recon_report.proofs.Same.{report_is}
 use Rattle.recon_report.proofs.sections.report.Goals as goal
