@@ -52,7 +52,8 @@ pub(crate) fn answered(row: &Row, leg: Leg) -> Option<Answer>
     }
 }
 
-fn is_posted(answer: Option<Answer>) -> bool
+/// Whether a leg was answered, and posted.
+pub fn is_posted(answer: Option<Answer>) -> bool
     ensures { result ≡ is_posted_of answer }
 {
     match answer {
@@ -105,7 +106,7 @@ fn total(setup: &[SetupLine], rows: &[Row], ac: &AccountRef, leg: Leg) -> u128
 }
 
 /// The balance of an account, in paise.
-pub(crate) fn balance(setup: &[SetupLine], rows: &[Row], account: &Account) -> u128
+pub fn balance(setup: &[SetupLine], rows: &[Row], account: &Account) -> u128
     ensures sum { result ≡ row_balance_of setup.now rows.now account.now }
     ensures bound { result < 2 ^ 120 }
 {

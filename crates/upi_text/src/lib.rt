@@ -9,6 +9,7 @@ pub mod setup_text;
 pub mod words;
 
 pub use journal::entry_text;
+pub use pieces::code_word;
 pub use refusal::Refusal;
 pub use setup::SetupRead;
 pub use setup_text::SetupText;

@@ -74,7 +74,7 @@ pub(crate) fn leg_word(leg: Leg) -> &'static [u8]
 }
 
 /// How a code is written.
-pub(crate) fn code_word(code: Code) -> &'static [u8]
+pub fn code_word(code: Code) -> &'static [u8]
     ensures { result.now ≡ code_text code }
 {
     match code {
