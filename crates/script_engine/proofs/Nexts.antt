@@ -42,13 +42,17 @@ next_more h e n is_call is = record {
   where
     other : (k : ℕ) → (n ≡ k → ⊥) → (n == k) ≡ false
     other k h = grind (arith, nat_tests)
+
     self : (k : ℕ) → n ≡ k → (n == k) ≡ true
     self k h = grind (arith, nat_tests)
+
     below_by : (k : ℕ) → 1 ≤ k → k < n + 1 → (b : Bool) → nat_lt k n ≡ b → ((n == k) || is_taken h k) ≡ true
     below_by k least less true t = either (n == k) (is_taken h k) (is.below k least (grind (arith, nat_tests)))
     below_by k least less false t = ap (λ (b : Bool). b || is_taken h k) (self k (grind (arith, nat_tests)))
+
     below : (k : ℕ) → 1 ≤ k → k < n + 1 → ((n == k) || is_taken h k) ≡ true
     below k least less = below_by k least less (nat_lt k n) refl
+
     above : (k : ℕ) → n + 1 ≤ k → ((n == k) || is_taken h k) ≡ false
     above k le = ap (λ (b : Bool). b || is_taken h k) (other k (omega (arith, le))) ∙ is.above k (omega (arith, le))
 

@@ -11,6 +11,8 @@ use Rattle.upi_text.specs.Journal.{sent_count}
 use Rattle.script_engine.specs.declared.line.ScriptRead.{ScriptRead}
 use Rattle.script_engine.specs.declared.line.ScriptRead.TheVariants as says
 use Rattle.upi_text.specs.Refusals.{refusal}
+use Rattle.upi_base.specs.declared.fault.Why.TheVariants as reason
+use Rattle.script_engine.specs.End.{finished}
 use Rattle.script_engine.specs.declared.engine.Turn.{Turn}
 use Rattle.script_engine.specs.declared.engine.Turn.TheVariants as turn
 use Rattle.script_engine.specs.declared.engine.EngineFault.{EngineFault}
@@ -56,8 +58,8 @@ MayPlay p says.Close = p.ready ≡ true
 
 -- one turn of RUN: it goes on with what follows, or it has stopped
 abbrev pub TurnAnswer : Play → List ℕ → List ℕ → Play → Turn → Type 0
-TurnAnswer p before after new turn.Went = (t : List ℕ) × (after ≡ before ++ t) × ((go : Play → Played) → run_turn go p (lowest_pending p.history) ≡ after_text t (go new))
-TurnAnswer p before after new turn.Stopped = (t : List ℕ) × (after ≡ before ++ t) × ((go : Play → Played) → run_turn go p (lowest_pending p.history) ≡ record { play = new; text = t })
+TurnAnswer p before after new turn.Went = (t : List ℕ) × (after ≡ before ++ t) × (new.ready ≡ p.ready) × ((go : Play → Played) → run_turn go p (lowest_pending p.history) ≡ after_text t (go new))
+TurnAnswer p before after new turn.Stopped = (t : List ℕ) × (after ≡ before ++ t) × (new.ready ≡ p.ready) × ((go : Play → Played) → run_turn go p (lowest_pending p.history) ≡ record { play = new; text = t })
 
 -- so much of RUN is done: the text so far, and the turns that are left
 pub record IsRunning (p : Play) (before after : List ℕ) (now : Play) (left : ℕ) : Type 0 where
@@ -70,3 +72,9 @@ abbrev pub LineAnswer : Play → List ℕ → List ℕ → List ℕ → Play →
 LineAnswer p line before after new (Ok u) = (q : Played) × (play_line p line ≡ Ok q) × (after ≡ before ++ q.text) × (new ≡ q.play)
 LineAnswer p line before after new (Err (fault.Bad field why)) = (play_line p line ≡ Err (refusal field why)) × (after ≡ before) × (new ≡ p)
 LineAnswer p line before after new (Err fault.NoMemory) = Unit {0}
+
+-- the end of a script
+abbrev pub EndAnswer : Play → List ℕ → List ℕ → Play → Result (Unit {0}) EngineFault → Type 0
+EndAnswer p before after new (Ok u) = (p.ready ≡ true) × (after ≡ before ++ (finished p).text) × (new ≡ (finished p).play)
+EndAnswer p before after new (Err (fault.Bad field why)) = (p.ready ≡ false) × (field ≡ 0) × (why ≡ reason.End) × (after ≡ before) × (new ≡ p)
+EndAnswer p before after new (Err fault.NoMemory) = Unit {0}

@@ -5,6 +5,7 @@ ghost use Rattle.script_engine.specs.Play.{is_open_line as is_open_line_of};
 
 use crate::call::{MAX_ENTRIES, entry_of, write_entry, write_full};
 use crate::line::{ScriptRead, call_part, setup_part};
+use recon_report::report;
 use std::alloc::Global;
 use std::marker::Model;
 use upi_base::{Call, Entry, Input, Message, Moment, NoMemory, PspName, Why};
@@ -106,12 +107,14 @@ impl Engine {
 }
 
 impl Engine {
-    ghost use Rattle.std.specs.Prelude.{◌≡◌, ◌++◌, ◌<◌, ℕ, true, false, ◌∷◌, OnOk, IfOk};
+    ghost use Rattle.std.specs.Prelude.{◌≡◌, ◌++◌, ◌<◌, ℕ, true, false, ◌∷◌, codes, OnOk, IfOk};
     ghost use Rattle.upi_base.specs.Setup.{has_psp};
     ghost use Rattle.upi_base.specs.declared.entry.Entry.{Entry as AnEntry};
-    ghost use Rattle.upi_laws.specs.Legal.{may_come, has_room as has_room_of, names_known};
+    ghost use Rattle.upi_laws.specs.Legal.{may_come, has_room as has_room_of, names_known, Legal};
+    ghost use Rattle.recon_report.specs.Report.{report_text};
+    ghost use Rattle.script_engine.specs.End.{closed_at_end};
     ghost use Rattle.script_engine.specs.Play.{now_of, put_call, takes, try_call as try_call_of, script_read, run_all, take_setup as take_setup_of, send as send_of, close as close_of, played};
-    ghost use Rattle.script_engine.specs.Kept.{IsNext, MayPlay, TurnAnswer, LineAnswer};
+    ghost use Rattle.script_engine.specs.Kept.{IsNext, MayPlay, TurnAnswer, LineAnswer, EndAnswer};
 
     /// The current moment: that of START, and the first of all where there is none.
     fn now(&self) -> Moment
@@ -129,7 +132,13 @@ impl Engine {
         ensures known { IfOk result (λ r. IfOk r (MayPlay self.now)) }
     {
         if self.ready {
-            call_part(self.alloc, self.setup.lines(), self.sends, self.closes, line)
+            call_part(
+                self.alloc,
+                self.setup.lines(),
+                self.sends,
+                self.closes,
+                line,
+            )
         } else {
             Ok(setup_part(&self.setup, line))
         }
@@ -146,7 +155,9 @@ impl Engine {
         let now = self.now();
         let lines = self.setup.lines();
         let entry = entry_of(self.alloc, lines, &self.history, &self.found, call, now)?;
-        let found = self.found.with(self.alloc, lines, &self.history, &entry.call, now)?;
+        let found = self
+            .found
+            .with(self.alloc, lines, &self.history, &entry.call, now)?;
         let place = self.history.len() as u64 + 1;
         let messages = write_entry(self.alloc, &entry, place, self.messages, out)?;
         self.history.push(entry)?;
@@ -278,5 +289,53 @@ impl Engine {
                 Ok(()) => Ok(()),
             },
         }
+    }
+
+    /// Closes, where nothing has closed before.
+    fn close_at_end(&mut self, out: &mut Vec<u8>) -> Result<(), NoMemory>
+        requires { self.old.ready ≡ true }
+        ensures { OnOk result ((self.new ≡ (closed_at_end self.old).play) × (out.new.items ≡ out.old.items ++ (closed_at_end self.old).text)) }
+    {
+        if self.found.closed {
+            return Ok(());
+        }
+        let next = self.next;
+        self.put(Call::Close, next, out)
+    }
+
+    /// Appends the report of the history.
+    fn write_report(&self, out: &mut Vec<u8>) -> Result<(), NoMemory>
+        ensures { OnOk result (out.new.items ≡ out.old.items ++ codes "REPORT\n" ++ report_text self.now.setup.lines self.now.history) }
+    {
+        out.extend_from_slice(b"REPORT\n")?;
+        report(self.alloc, self.setup.lines(), &self.found, out)?;
+        Ok(())
+    }
+
+    /// The end of the input: closes where no CLOSE was accepted, and appends the report.
+    pub fn end(&mut self, out: &mut Vec<u8>) -> Result<(), EngineFault>
+        ensures answer { EndAnswer self.old out.old.items out.new.items self.new result }
+        ensures legal { OnOk result (Legal self.new.setup.lines self.new.history) }
+    {
+        if !self.ready {
+            return Err(EngineFault::Bad {
+                field: 0,
+                why: Why::End,
+            });
+        }
+        if self.close_at_end(out).is_err() {
+            return Err(EngineFault::NoMemory);
+        }
+        if self.write_report(out).is_err() {
+            return Err(EngineFault::NoMemory);
+        }
+        Ok(())
+    }
+
+    /// What was played is a legal history.
+    pub fn is_legal(&self)
+        ensures { Legal self.now.setup.lines self.now.history }
+    {
+        let _ready = self.ready;
     }
 }

@@ -122,7 +122,10 @@ fn command_of(word: &[u8]) -> Option<Command>
         Some(Command::Run)
     } else if is(word, b"CLOSE") {
         Some(Command::Close)
-    } else if is(word, b"DELIVER") || is(word, b"REPEAT") || is(word, b"LOSE") || is(word, b"TICK")
+    } else if is(word, b"DELIVER")
+        || is(word, b"REPEAT")
+        || is(word, b"LOSE")
+        || is(word, b"TICK")
     {
         Some(Command::Later)
     } else {
@@ -203,13 +206,7 @@ fn in_thousand(text: &[u8]) -> Option<u64>
 {
     match number(text) {
         None => None,
-        Some(n) => {
-            if n <= 1000 {
-                Some(n)
-            } else {
-                None
-            }
-        }
+        Some(n) => { if n <= 1000 { Some(n) } else { None } }
     }
 }
 
