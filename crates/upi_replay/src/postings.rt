@@ -52,7 +52,7 @@ pub(crate) fn answered(row: &Row, leg: Leg) -> Option<Answer>
     }
 }
 
-fn is_posted(answer: Option<Answer>) -> bool
+pub(crate) fn is_posted(answer: Option<Answer>) -> bool
     ensures { result ≡ is_posted_of answer }
 {
     match answer {
