@@ -19,6 +19,7 @@ use Rattle.upi_laws.specs.declared.places.Opening.{Opening}
 use Rattle.upi_laws.specs.Places.{opened}
 use Rattle.upi_laws.specs.Outcomes.{outcome_of}
 use Rattle.upi_laws.specs.Postings.{answer, is_posted, moved}
+pub use Rattle.upi_base.specs.Setup.{accounts}
 
 -- the bank of an address's account; none where there is no account
 abbrev pub bank_of : Option Account → List ℕ
@@ -79,14 +80,6 @@ abbrev pub position : List SetupLine → List ℕ → Leg → List Entry → ℕ
 position S bank leg.Debit h = sum_by (λ (o : Opening). if bytes_eq (bank_at S o.terms.payer) bank then moved S o.terms.txn leg.Debit h else 0) (opened S h)
 position S bank leg.Reversal h = sum_by (λ (o : Opening). if bytes_eq (bank_at S o.terms.payer) bank then moved S o.terms.txn leg.Reversal h else 0) (opened S h)
 position S bank leg.Credit h = sum_by (λ (o : Opening). if bytes_eq (bank_at S o.terms.payee) bank then moved S o.terms.txn leg.Credit h else 0) (opened S h)
-
--- the accounts of the setup, in order
-abbrev pub accounts : List SetupLine → List Account
-accounts [] = []
-accounts (line.Account ac opening no_debit no_credit ∷ lines) = record { ac = ac; opening = opening; no_debit = no_debit; no_credit = no_credit } ∷ accounts lines
-accounts (line.Bank code ∷ lines) = accounts lines
-accounts (line.Psp name ∷ lines) = accounts lines
-accounts (line.Address addr ac policy ∷ lines) = accounts lines
 
 -- the banks of the setup, in order
 abbrev pub banks : List SetupLine → List (List ℕ)
