@@ -4,3 +4,4 @@ pub mod Steps
 pub mod Says
 pub mod Addresses
 pub mod Sends
+pub mod Verdicts

@@ -5,12 +5,16 @@
 pub mod dues;
 pub mod events;
 pub mod found;
+pub mod legal;
 pub mod places;
 pub mod postings;
 pub mod replies;
+pub mod reply;
 pub mod rows;
 pub mod rules;
+pub mod same;
 pub mod sending;
 
 pub use found::Found;
+pub use reply::{found_in, replay, reply_of, verdict_is_exact};
 pub use rows::Row;

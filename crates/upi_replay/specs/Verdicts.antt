@@ -1,0 +1,43 @@
+-- Whether a history is legal, and where and why it isn't.
+use Rattle.std.specs.Prelude.{ℕ, ◌≡◌, ◌+◌, Bool, true, false, ◌↔◌, List, [], ◌∷◌, ◌++◌, length}
+use Rattle.upi_base.specs.declared.entry.Entry.{Entry}
+use Rattle.upi_base.specs.declared.setup.SetupLine.{SetupLine}
+use Rattle.upi_base.specs.declared.settled.AuditWhy.{AuditWhy}
+use Rattle.upi_base.specs.declared.settled.AuditWhy.TheVariants as why
+use Rattle.upi_base.specs.declared.settled.Verdict.{Verdict}
+use Rattle.upi_base.specs.declared.settled.Verdict.TheVariants as verdict
+use Rattle.upi_laws.specs.Replies.{reply_to}
+use Rattle.upi_laws.specs.Sending.{sent_by}
+use Rattle.upi_laws.specs.Legal.{may_come, IsRight, Legal}
+use Rattle.upi_replay.specs.Rows.{past}
+
+-- the first reason for which an entry isn't right behind that history
+abbrev pub IsFault : List SetupLine → List Entry → Entry → AuditWhy → Type 0
+IsFault S before e why.Call = may_come S before e.call ≡ false
+IsFault S before e why.Reply = (may_come S before e.call ≡ true) × ¬ e.reply ≡ reply_to S before e.call e.at
+IsFault S before e why.Sent = (may_come S before e.call ≡ true) × (e.reply ≡ reply_to S before e.call e.at) × ¬ e.sent ≡ sent_by S before e.call e.at
+IsFault S before e why.NoClose = ⊥
+IsFault S before e why.Report = ⊥
+
+-- the first entry that isn't right, counted from 1, and why
+pub record IsFirstWrong (S : List SetupLine) (H : List Entry) (place : ℕ) (why : AuditWhy) : Type 0 where
+  pub front : List Entry
+  pub entry : Entry
+  pub later : List Entry
+  pub splits : front ++ entry ∷ later ≡ H
+  pub placed : place ≡ length front + 1
+  pub legal : Legal S (past front)
+  pub fault : IsFault S (past front) entry why
+
+-- what a verdict says of a history whose latest entry stands last
+abbrev pub Judges : List SetupLine → List Entry → Verdict → Type 0
+Judges S H (verdict.Yes count) = (count ≡ length H) × Legal S (past H)
+Judges S H (verdict.No place why) = IsFirstWrong S H place why
+
+abbrev pub is_yes : Verdict → Bool
+is_yes (verdict.Yes count) = true
+is_yes (verdict.No place why) = false
+
+-- a verdict says yes exactly where the history is legal
+abbrev pub VerdictIsExact : Type 0
+VerdictIsExact = (S : List SetupLine) (H : List Entry) (v : Verdict) → Judges S H v → (is_yes v ≡ true) ↔ Legal S (past H)
