@@ -31,7 +31,7 @@ use Rattle.upi_laws.proofs.Openings.{opening_is_named}
 use Rattle.upi_laws.proofs.Steps.{none_if, none_then, no_debit_now, no_credit}
 use Rattle.upi_replay.specs.declared.rows.Row.{Row}
 use Rattle.upi_replay.specs.declared.found.Found.{Found}
-use Rattle.upi_replay.specs.Rows.{row_if, row_at, row_of, rows_of, openings, order_answer_in, IsFound, Says, reply_heard_in, reply_answered_in, reply_in, reply_closed_said_in, reply_closed_on_in, reply_closed_in}
+use Rattle.upi_replay.specs.Rows.{row_if, row_at, row_of, rows_of, openings, outcome_in, order_answer_in, IsFound, Says, reply_heard_in, reply_answered_in, reply_in, reply_closed_said_in, reply_closed_on_in, reply_closed_in}
 use Rattle.upi_replay.proofs.Steps.{openings_of, post_is, undecided}
 
 -- the row of a name is that of the opening of the name
@@ -159,3 +159,6 @@ replied_closed S h f c e now is closed event_is =
     (λ i. reply_closed_in (is.rows i) c (event_is i))
     ∙ (closed_is S h c
     ∙ sym (ap (λ (b : Bool). if b then reply_closed S h c else reply_on S h (event_of h c) now) shut))
+
+pub outcome_found : (S : List SetupLine) (h : List Entry) (f : Found) (t : List ℕ) (r : Option Row) → IsFound S h f → r ≡ row_at f.rows.items t → outcome_in r ≡ outcome_of S t h
+outcome_found S h f t r is at = ap outcome_in at ∙ (ap (λ (rows : List Row). outcome_in (row_at rows t)) is.rows ∙ (says S h t).outcome)

@@ -20,7 +20,7 @@ use Rattle.upi_laws.specs.declared.places.Decision.{Decision}
 use Rattle.upi_laws.specs.History.{is_close, is_closed, event_of}
 use Rattle.upi_laws.specs.Places.{opened, opens, opening, decides, decision, debit, credit, reversal}
 use Rattle.upi_laws.specs.Outcomes.{outcome_by, outcome_of}
-use Rattle.upi_laws.specs.Postings.{answer, arrives, reversal_due, post, post_leg, post_debit, post_credit, total, balance_by}
+use Rattle.upi_laws.specs.Postings.{answer, arrives, reversal_due, post, post_leg, post_debit, post_credit, total, balance_by, flight}
 use Rattle.upi_laws.specs.Dues.{acknowledges, acknowledged}
 use Rattle.upi_laws.proofs.Stays.{or_both_none, none_some}
 use Rattle.upi_laws.proofs.Facts.{decided_opened, answered_opened, acknowledged_told}
@@ -28,7 +28,7 @@ use Rattle.upi_laws.proofs.Openings.{opens_found, openings_are_found}
 use Rattle.upi_laws.proofs.Steps.{none_if, none_then, opening_alone, decision_alone, debit_alone, cause_alone, debit_uncaused, no_debit_now}
 use Rattle.upi_replay.specs.declared.rows.Row.{Row}
 use Rattle.upi_replay.specs.declared.found.Found.{Found}
-use Rattle.upi_replay.specs.Rows.{openings, row_share, row_total, row_balance, post_row, row_after, rows_after, opened_row, new_row, row_of, rows_of, IsFound}
+use Rattle.upi_replay.specs.Rows.{openings, row_share, row_total, row_balance, row_flight, rows_flight, post_row, row_after, rows_after, opened_row, new_row, row_of, rows_of, IsFound}
 
 -- the openings of the rows of a history are its openings
 pub openings_of : (S : List SetupLine) (h : List Entry) → openings (rows_of S h) ≡ opened S h
@@ -51,6 +51,9 @@ total_is S h ac leg.Reversal = sum_map (row_share S ac leg.Reversal) (row_of S h
 
 pub balance_is : (S : List SetupLine) (h : List Entry) (a : Account) → row_balance S (rows_of S h) a ≡ balance_by S (opened S h) (answer S h) a
 balance_is S h a = λ i. a.opening + total_is S h a.ac leg.Reversal i + total_is S h a.ac leg.Credit i - total_is S h a.ac leg.Debit i
+
+pub flight_is : (S : List SetupLine) (h : List Entry) → rows_flight (rows_of S h) ≡ flight S h
+flight_is S h = sum_map row_flight (row_of S h) (opened S h)
 
 -- a leg is posted alike
 post_leg_is : (S : List SetupLine) (h : List Entry) (o : Opening) (l : Leg) → post_row S (rows_of S h) (row_of S h o) l ≡ post_leg S (opened S h) (answer S h) o.terms l

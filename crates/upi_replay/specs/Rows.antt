@@ -29,7 +29,7 @@ use Rattle.upi_laws.specs.declared.places.LegEnd.TheVariants as ended
 use Rattle.upi_laws.specs.History.{is_closed, sent}
 use Rattle.upi_laws.specs.Places.{has_id, opened, opening, opens, decision, decides, debit, credit, reversal, ends, due_debit, due_credit, cause_by, reverses}
 use Rattle.upi_laws.specs.Outcomes.{outcome_by, outcome_of}
-use Rattle.upi_laws.specs.Postings.{answer, arrives, reversal_due_by, share, post_debit, post_credit, post_reversal}
+use Rattle.upi_laws.specs.Postings.{answer, arrives, reversal_due_by, share, in_flight, post_debit, post_credit, post_reversal}
 use Rattle.upi_laws.specs.Dues.{acknowledged, acknowledges, orders, confirms, last_sent, due_confirm, due_leg, due_by, due, passed}
 use Rattle.upi_laws.specs.Replies.{ok, no, reply_pay, reply_auth, reply_check, reply_confirmed, late_answer, reply_order, reply_late, order_answer}
 use Rattle.upi_replay.specs.declared.rows.Row.{Row}
@@ -91,6 +91,13 @@ row_total S rows ac l = sum_by (row_share S ac l) rows
 
 abbrev pub row_balance : List SetupLine → List Row → Account → ℕ
 row_balance S rows a = a.opening + row_total S rows a.ac leg.Reversal + row_total S rows a.ac leg.Credit - row_total S rows a.ac leg.Debit
+
+-- what a row has in flight, and what all rows have
+abbrev pub row_flight : Row → ℕ
+row_flight r = in_flight r.debited r.credited r.reversed r.opening.terms
+
+abbrev pub rows_flight : List Row → ℕ
+rows_flight rows = sum_by row_flight rows
 
 -- how a bank answers the first arrival of a leg
 abbrev pub post_row : List SetupLine → List Row → Row → Leg → Option Answer

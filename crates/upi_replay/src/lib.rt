@@ -8,6 +8,7 @@ pub mod found;
 pub mod legal;
 pub mod places;
 pub mod postings;
+pub mod readers;
 pub mod replies;
 pub mod reply;
 pub mod rows;
