@@ -1,5 +1,5 @@
 -- The messages by rows are the definitions'.
-use Rattle.std.proofs.Common.{◌≡◌, ℕ, true, false, List, ◌++◌, Option, Some, None, refl, sym, ◌∙◌, ap, subst}
+use Rattle.std.proofs.Common.{◌≡◌, ℕ, false, List, ◌++◌, Option, Some, None, refl, sym, ◌∙◌, ap}
 use Rattle.std.specs.Prelude.{if◌then◌else◌, Bool, [], Result, Ok, Err, OnOk}
 use Rattle.std.specs.Option.{option_map}
 use Rattle.upi_base.specs.declared.entry.Entry.{Entry}
@@ -9,7 +9,6 @@ use Rattle.upi_base.specs.declared.sent.Sent.{Sent}
 use Rattle.upi_base.specs.declared.sent.Party.{Party}
 use Rattle.upi_base.specs.declared.sent.Body.{Body}
 use Rattle.upi_base.specs.declared.sent.Body.TheVariants as body
-use Rattle.upi_base.specs.declared.code.Answer.{Answer}
 use Rattle.upi_base.specs.declared.setup.SetupLine.{SetupLine}
 use Rattle.upi_laws.specs.declared.event.Said.{Said}
 use Rattle.upi_laws.specs.declared.event.Said.TheVariants as said
@@ -21,9 +20,8 @@ use Rattle.upi_laws.specs.Places.{opened, opening, opens_said, cause}
 use Rattle.upi_laws.specs.Dues.{passed}
 use Rattle.upi_laws.specs.Sending.{sent_on_opening, sent_by_txn, sent_again, sent_on_late, sent_on_event, bank_answer, receiver_answer, answered_message, receiver_answers, sent_on_said, sent_on, sent_by}
 use Rattle.upi_laws.proofs.Openings.{opening_is_named}
-use Rattle.upi_replay.specs.declared.rows.Row.{Row}
 use Rattle.upi_replay.specs.declared.found.Found.{Found}
-use Rattle.upi_replay.specs.Rows.{row_at, row_of, rows_of, openings, IsFound, Says}
+use Rattle.upi_replay.specs.Rows.{row_at, row_of, rows_of, IsFound}
 use Rattle.upi_replay.specs.Sends.{sent_on_event_in, sent_on_late_in, sent_on_said_in, sent_on_in, receiver_answer_in, answered_message_in, receiver_answers_in}
 use Rattle.upi_replay.proofs.Steps.{openings_of}
 use Rattle.upi_replay.proofs.Says.{row_at_is, says_named, says}

@@ -1,16 +1,15 @@
 -- What a verdict says, and one entry more.
-use Rattle.std.proofs.Common.{◌≡◌, ℕ, ◌+◌, ◌<◌, Bool, true, false, List, [], ◌∷◌, ◌++◌, length, get_or, take, drop, refl, sym, ◌∙◌, ap, subst, arith, reverse}
+use Rattle.std.proofs.Common.{◌≡◌, ℕ, ◌+◌, ◌<◌, true, false, List, [], ◌∷◌, ◌++◌, length, get_or, take, drop, refl, sym, ◌∙◌, ap, subst, arith}
 use Rattle.std.proofs.lemmas.List.{append_assoc, reverse-append, drop_more, take-append-drop, length-take-le}
 use Rattle.upi_base.specs.declared.entry.Entry.{Entry}
 use Rattle.upi_base.specs.declared.setup.SetupLine.{SetupLine}
 use Rattle.upi_base.specs.declared.settled.AuditWhy.{AuditWhy}
 use Rattle.upi_base.specs.declared.settled.AuditWhy.TheVariants as why
-use Rattle.upi_base.specs.declared.settled.Verdict.{Verdict}
 use Rattle.upi_base.specs.declared.settled.Verdict.TheVariants as verdict
-use Rattle.upi_laws.specs.Legal.{may_come, IsRight, Legal}
+use Rattle.upi_laws.specs.Legal.{IsRight, Legal}
 use Rattle.upi_laws.proofs.Beginnings.{legal_at}
 use Rattle.upi_replay.specs.Rows.{past}
-use Rattle.upi_replay.specs.Verdicts.{IsFault, IsFirstWrong, Judges, is_yes, VerdictIsExact}
+use Rattle.upi_replay.specs.Verdicts.{IsFault, IsFirstWrong, VerdictIsExact}
 
 -- an entry with a fault isn't right
 faulty : (S : List SetupLine) (before : List Entry) (e : Entry) (w : AuditWhy) → IsFault S before e w → IsRight S before e → ⊥

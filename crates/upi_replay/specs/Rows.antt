@@ -1,5 +1,5 @@
 -- What was found in a history, in lists.
-use Rattle.std.specs.Prelude.{ℕ, ◌≡◌, ◌+◌, ◌-◌, Bool, false, if◌then◌else◌, List, [], ◌∷◌, map, reverse, Option, Some, None, is_some}
+use Rattle.std.specs.Prelude.{ℕ, ◌≡◌, ◌+◌, ◌-◌, Bool, false, if◌then◌else◌, List, map, reverse, Option, Some, None, is_some}
 use Rattle.std.specs.Option.{option_or, option_map}
 use Rattle.std.specs.List.{sum_by, count_by}
 use Rattle.upi_base.specs.declared.entry.Entry.{Entry}

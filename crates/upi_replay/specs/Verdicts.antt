@@ -1,5 +1,5 @@
 -- Whether a history is legal, and where and why it isn't.
-use Rattle.std.specs.Prelude.{ℕ, ◌≡◌, ◌+◌, Bool, true, false, ◌↔◌, List, [], ◌∷◌, ◌++◌, length}
+use Rattle.std.specs.Prelude.{ℕ, ◌≡◌, ◌+◌, Bool, true, false, ◌↔◌, List, ◌∷◌, ◌++◌, length}
 use Rattle.upi_base.specs.declared.entry.Entry.{Entry}
 use Rattle.upi_base.specs.declared.setup.SetupLine.{SetupLine}
 use Rattle.upi_base.specs.declared.settled.AuditWhy.{AuditWhy}
@@ -8,7 +8,7 @@ use Rattle.upi_base.specs.declared.settled.Verdict.{Verdict}
 use Rattle.upi_base.specs.declared.settled.Verdict.TheVariants as verdict
 use Rattle.upi_laws.specs.Replies.{reply_to}
 use Rattle.upi_laws.specs.Sending.{sent_by}
-use Rattle.upi_laws.specs.Legal.{may_come, IsRight, Legal}
+use Rattle.upi_laws.specs.Legal.{may_come, Legal}
 use Rattle.upi_replay.specs.Rows.{past}
 
 -- the first reason for which an entry isn't right behind that history

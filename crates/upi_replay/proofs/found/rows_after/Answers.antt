@@ -1,5 +1,4 @@
-use Rattle.std.proofs.Common.{List, ◌∷◌, [], ◌++◌, ◌∙◌, sym, map}
-use Rattle.upi_replay.specs.declared.rows.Row.{Row}
+use Rattle.std.proofs.Common.{◌∷◌, [], ◌++◌, ◌∙◌, sym}
 use Rattle.upi_replay.specs.Rows.{row_after}
 use Rattle.upi_replay.proofs.Totals.{map_more}
 use Rattle.upi_replay.proofs.found.rows_after.Goals as goal

@@ -1,4 +1,4 @@
-use Rattle.std.proofs.Common.{take, ◌≡◌, ◌≤◌, length}
+use Rattle.std.proofs.Common.{take}
 use Rattle.upi_laws.specs.Legal.{Legal}
 use Rattle.upi_replay.specs.Rows.{past, IsFound}
 use Rattle.upi_replay.proofs.reply.replay.Given as goal
