@@ -6,3 +6,6 @@ mod script;
 
 pub use command::run;
 pub use upi_io::{Status, Words};
+
+#[cfg(test)]
+mod tests;
