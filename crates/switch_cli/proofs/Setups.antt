@@ -172,9 +172,14 @@ end_keeps p = go (is_closed p.history)
     go true = refl
     go false = refl
 
--- the history at the end of a script is sound
-pub trusted : (texts : List (List ℕ)) (p : Play) (text : List ℕ) → play texts ≡ Ok (record { play = p; text = text }) → Legal (finished p).play.setup.lines (finished p).play.history → IsTrusted (finished p).play
+-- a script's history is sound
+pub trusted : (texts : List (List ℕ)) (p : Play) (text : List ℕ) → play texts ≡ Ok (record { play = p; text = text }) → Legal p.setup.lines p.history → IsTrusted p
 trusted texts p text plays legal =
-    let set_up : IsSetUp p = subst (λ r. IfOk r (λ (q : Played). IsSetUp q.play)) plays (lines_keep texts blank refl) in
-    let accepted : IsSetUp (finished p).play = ap (λ (S : SetupState). is_setup S.lines) (end_keeps p) ∙ set_up in
+    let accepted : IsSetUp p = subst (λ r. IfOk r (λ (q : Played). IsSetUp q.play)) plays (lines_keep texts blank refl) in
+    record { accepted = accepted; legal = legal; sound = legal_is_sound p.setup.lines p.history accepted legal }
+
+-- and so it is at its end
+pub trusted_end : (p : Play) → IsTrusted p → Legal (finished p).play.setup.lines (finished p).play.history → IsTrusted (finished p).play
+trusted_end p t legal =
+    let accepted : IsSetUp (finished p).play = ap (λ (S : SetupState). is_setup S.lines) (end_keeps p) ∙ t.accepted in
     record { accepted = accepted; legal = legal; sound = legal_is_sound (finished p).play.setup.lines (finished p).play.history accepted legal }

@@ -107,5 +107,6 @@ pub record Ran (source before after : Option (List ℕ)) (s : Status) : Type 0 w
   pub part : List ℕ
   pub few : length texts ≤ max_lines
   pub plays : play texts ≡ Ok played
+  pub trusted : IsTrusted played.play
   pub wrote : after ≡ append_known before (played.text ++ part)
   pub ends : EndsBy source texts played.play part s

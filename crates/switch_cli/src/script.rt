@@ -118,6 +118,7 @@ pub(crate) fn run_script<S: Source, K: Sink>(alloc: Global, source: &mut S, sink
     let mut text = Vec::new(alloc);
     let mut number = 0u64;
     'lines: loop {
+        engine.is_legal();
         match look(&mut reader, source, &mut line, number) {
             Next::Line => {}
             Next::End => return finish(&mut engine, number + 1, &mut text, sink),

@@ -22,18 +22,18 @@ lines-init g c =
 pub returns-in-End-clause-ran : goal.returns-in-End-clause-ran
 returns-in-End-clause-ran g c =
     let i = c.lines.invariant in
-    finishes _ _ _ c.lines.engine c.lines.number c.look.new.line.items _ _ _ c.finish.result i.going i.most c.in-End.ensures.answer c.finish.ensures.bytes
+    finishes _ _ _ c.lines.engine c.lines.number c.look.new.line.items _ _ _ c.finish.result i.going c.is_legal.ensures i.most c.in-End.ensures.answer c.finish.ensures.bytes
 
 pub returns-in-Stop-clause-ran : goal.returns-in-Stop-clause-ran
 returns-in-Stop-clause-ran g c =
     let i = c.lines.invariant in
-    look_stops _ _ _ c.lines.engine c.lines.number c.look.new.line.items _ _ c.in-Stop.status i.going i.most c.in-Stop.ensures.answer
+    look_stops _ _ _ c.lines.engine c.lines.number c.look.new.line.items _ _ c.in-Stop.status i.going c.is_legal.ensures i.most c.in-Stop.ensures.answer
 
 pub returns-in-Some-clause-ran : goal.returns-in-Some-clause-ran
 returns-in-Some-clause-ran g c =
     let i = c.lines.invariant in
     let b = shown c.lines.engine c.deref.result.now c.look.new.line.items (c.lines.number + 1) (g.K.Sink.taken c.lines.sink) (g.K.Sink.taken c.answer.new.sink) c.answer.new.engine (Some c.in-Some.status) c.deref.ensures.value c.in-Some.ensures.bytes in
-    line_stops _ _ _ c.lines.engine c.lines.number c.look.new.line.items _ _ _ c.in-Some.status i.going c.in-Line.ensures.answer.0 c.in-Line.ensures.answer.1 b
+    line_stops _ _ _ c.lines.engine c.lines.number c.look.new.line.items _ _ _ c.in-Some.status i.going c.is_legal.ensures c.in-Line.ensures.answer.0 c.in-Line.ensures.answer.1 b
 
 pub lines-preserved : goal.lines-preserved
 lines-preserved g c =
