@@ -1,0 +1,112 @@
+-- A script that is run over the lines of a source: what is written, and how it ends.
+use Rattle.std.specs.Prelude.{◌≡◌, ◌⊎◌, ℕ, ◌+◌, ◌<◌, ◌≤◌, true, false, List, [], ◌∷◌, ◌++◌, length, take, Option, Result, Ok, Err}
+use Rattle.std.specs.Io.KnownBytes.{append_known}
+use Rattle.upi_base.specs.declared.fault.Why.{Why}
+use Rattle.upi_base.specs.declared.fault.Why.TheVariants as why
+use Rattle.upi_base.specs.Setup.{is_setup}
+use Rattle.upi_io.specs.Lines.{max_lines}
+use Rattle.upi_io.specs.declared.status.Status.{Status}
+use Rattle.upi_io.specs.declared.status.Status.TheVariants as status
+use Rattle.upi_laws.specs.Legal.{Legal}
+use Rattle.upi_laws.specs.Sound.{Sound}
+use Rattle.upi_text.specs.Refusals.{refusal}
+use Rattle.upi_text.specs.declared.refusal.Refusal.{Refusal}
+use Rattle.script_engine.specs.Play.{Play, Played, blank, play_line, after_text}
+use Rattle.script_engine.specs.End.{finished}
+use Rattle.switch_cli.specs.Lines.{AreRead, IsAny, IsOver, IsMore, IsNext, IsLong}
+
+-- more is played, behind a text
+abbrev pub onto : List ℕ → Result Played Refusal → Result Played Refusal
+onto text (Ok q) = Ok (after_text text q)
+onto text (Err e) = Err e
+
+abbrev pub and_then : Result Played Refusal → (Play → Result Played Refusal) → Result Played Refusal
+and_then (Ok q) more = onto q.text (more q.play)
+and_then (Err e) more = Err e
+
+-- these lines are played one after another, up to the first that is refused
+abbrev pub play_from : List (List ℕ) → Play → Result Played Refusal
+play_from [] p = Ok (record { play = p; text = [] })
+play_from (l ∷ ls) p = and_then (play_line p l) (play_from ls)
+
+-- a script of these lines
+abbrev pub play : List (List ℕ) → Result Played Refusal
+play lines = play_from lines blank
+
+-- The setup is accepted, and the history over it is legal, and sound at each of its prefixes.
+pub record IsTrusted (p : Play) : Type 0 where
+  pub accepted : is_setup p.setup.lines ≡ true
+  pub legal : Legal p.setup.lines p.history
+  pub sound : Sound p.setup.lines p.history
+
+-- ---- how it ends, after the lines of `texts` were played to p, with a further part written
+
+-- OPEN was read and no line is left; the end was played
+pub record Finishes (source : Option (List ℕ)) (texts : List (List ℕ)) (p : Play) (part : List ℕ) : Type 0 where
+  pub ready : p.ready ≡ true
+  pub over : AreRead source texts IsOver
+  pub text : part ≡ (finished p).text
+  pub trusted : IsTrusted (finished p).play
+
+-- the next line is outside the grammar
+pub record IsRefused (source : Option (List ℕ)) (texts : List (List ℕ)) (p : Play) (field : ℕ) (w : Why) : Type 0 where
+  pub text : List ℕ
+  pub few : length texts < max_lines
+  pub next : AreRead source texts (IsNext text)
+  pub refused : play_line p text ≡ Err (refusal field w)
+
+-- there are too many lines
+pub record AreTooMany (source : Option (List ℕ)) (texts : List (List ℕ)) (field : ℕ) (w : Why) : Type 0 where
+  pub many : length texts ≡ max_lines
+  pub more : AreRead source texts IsMore
+  pub whole : field ≡ 0
+  pub limit : w ≡ why.Limit
+
+-- no line is left, and OPEN wasn't read
+pub record EndsEarly (source : Option (List ℕ)) (texts : List (List ℕ)) (p : Play) (field : ℕ) (w : Why) : Type 0 where
+  pub unready : p.ready ≡ false
+  pub over : AreRead source texts IsOver
+  pub whole : field ≡ 0
+  pub ended : w ≡ why.End
+
+abbrev pub IsBad : Option (List ℕ) → List (List ℕ) → Play → ℕ → Why → Type 0
+IsBad source texts p field w = IsRefused source texts p field w ⊎ (AreTooMany source texts field w ⊎ EndsEarly source texts p field w)
+
+-- a part of the text of the next line was written
+pub record StopsInLine (source : Option (List ℕ)) (texts : List (List ℕ)) (p : Play) (part : List ℕ) : Type 0 where
+  pub text : List ℕ
+  pub played : Played
+  pub next : AreRead source texts (IsNext text)
+  pub plays : play_line p text ≡ Ok played
+  pub count : ℕ
+  pub short : count < length played.text
+  pub front : part ≡ take count played.text
+
+-- a part of the text of the end was written
+pub record StopsAtEnd (source : Option (List ℕ)) (texts : List (List ℕ)) (p : Play) (part : List ℕ) : Type 0 where
+  pub ready : p.ready ≡ true
+  pub over : AreRead source texts IsOver
+  pub count : ℕ
+  pub short : count < length (finished p).text
+  pub front : part ≡ take count (finished p).text
+
+abbrev pub EndsBy : Option (List ℕ) → List (List ℕ) → Play → List ℕ → Status → Type 0
+EndsBy source texts p part status.Done = Finishes source texts p part
+EndsBy source texts p part status.Usage = ⊥
+EndsBy source texts p part (status.BadLine line field w) = (part ≡ []) × (line ≡ length texts + 1) × IsBad source texts p field w
+EndsBy source texts p part (status.TooLong line) = (part ≡ []) × (line ≡ length texts + 1) × AreRead source texts (IsLong texts)
+EndsBy source texts p part status.ReadFault = (part ≡ []) × AreRead source texts IsAny
+EndsBy source texts p part status.WriteFault = StopsInLine source texts p part ⊎ StopsAtEnd source texts p part
+EndsBy source texts p part status.NoMemory = (part ≡ []) × AreRead source texts IsAny
+
+-- What a run of a script does: it reads lines, and writes what they play to; and then it ends. This holds of a source that doesn't tell what it has
+-- left, too: only then nothing is said of what the texts have to do with its bytes.
+pub record Ran (source before after : Option (List ℕ)) (s : Status) : Type 0 where
+  pub texts : List (List ℕ)
+  pub played : Played
+  pub part : List ℕ
+  pub few : length texts ≤ max_lines
+  pub plays : play texts ≡ Ok played
+  pub trusted : IsTrusted played.play
+  pub wrote : after ≡ append_known before (played.text ++ part)
+  pub ends : EndsBy source texts played.play part s
