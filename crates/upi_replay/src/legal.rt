@@ -1,7 +1,7 @@
 //! Whether an entry is right behind a history.
-ghost use Rattle.std.specs.Prelude.{◌≡◌, IfOk, MatchOption};
+ghost use Rattle.std.specs.Prelude.{◌≡◌, IfOk, MatchOption, is_some};
 ghost use Rattle.upi_laws.specs.Legal.{names_known as names_known_of, has_room as has_room_of, may_come as may_come_of, IsRight};
-ghost use Rattle.upi_laws.specs.History.{is_close as is_close_of};
+ghost use Rattle.upi_laws.specs.History.{is_close as is_close_of, message_at};
 ghost use Rattle.upi_replay.specs.Rows.{past};
 ghost use Rattle.upi_replay.specs.Verdicts.{IsFault};
 
@@ -24,7 +24,7 @@ fn is_close(call: &Call) -> bool
 }
 
 fn is_sent(history: &[Entry], n: u64) -> bool
-    ensures { result ≡ Rattle.std.specs.Prelude.is_some (Rattle.upi_laws.specs.History.message_at (past history.now) n) }
+    ensures { result ≡ is_some (message_at (past history.now) n) }
 {
     match message_of(history, n) {
         None => false,
