@@ -1,0 +1,340 @@
+use crate::play::{call_of, play, setup_of, wanted, written};
+use crate::{edges, rows};
+use std::alloc::Global;
+use std::test::Fail;
+use upi_base::{
+    AcNum, AccountRef, Answer, AuditWhy, BankCode, Call, Code, Entry, Moment, Paise, Reply,
+    SentList, Setup, TxnId, Verdict, account_named,
+};
+use upi_replay::{Found, found_in, replay};
+
+fn field(line: &[u8], place: usize) -> &[u8] {
+    line.split(|c| *c == b',').nth(place).unwrap_or(b"")
+}
+
+fn paise(text: &[u8]) -> Result<u128, Fail> {
+    Ok(u128::from(Paise::read(text).ok_or("no sum")?.get()))
+}
+
+// The status that a report's line gives of a transaction.
+fn status_wanted(alloc: Global, line: &[u8]) -> Result<Vec<u8>, Fail> {
+    let mut out = Vec::new(alloc);
+    out.extend_from_slice(b"= STATUS ")?;
+    out.extend_from_slice(field(line, 3))?;
+    let code = field(line, 5);
+    if !code.is_empty() {
+        out.push(b' ')?;
+        out.extend_from_slice(code)?;
+    }
+    out.push(b'\n')?;
+    Ok(out)
+}
+
+fn status_found(alloc: Global, found: &Found, line: &[u8]) -> Result<Vec<u8>, Fail> {
+    let txn = TxnId::read(field(line, 1)).ok_or("no transaction")?;
+    let entry = Entry {
+        call: Call::Close,
+        at: Moment::of(0).ok_or("no moment")?,
+        caller: 0,
+        reply: Reply::Status(found.outcome(&txn)),
+        sent: SentList::new(alloc),
+    };
+    written(alloc, &[entry])
+}
+
+fn balance(found: &Found, setup: &Setup, line: &[u8]) -> Result<u128, Fail> {
+    let ac = AccountRef {
+        bank: BankCode::read(field(line, 2)).ok_or("no bank")?,
+        num: AcNum::read(field(line, 1)).ok_or("no number")?,
+    };
+    let lines = setup.lines.items();
+    let account = account_named(lines, &ac).ok_or("no account")?;
+    Ok(found.balance(lines, &account))
+}
+
+// Whether what a report's line says is found.
+fn line_is_so(alloc: Global, found: &Found, setup: &Setup, line: &[u8]) -> Result<bool, Fail> {
+    match field(line, 0) {
+        b"OUTCOME" => {
+            let given = status_found(alloc, found, line)?;
+            Ok(given.as_slice() == status_wanted(alloc, line)?.as_slice())
+        }
+        b"BALANCE" => Ok(balance(found, setup, line)? == paise(field(line, 4))?),
+        b"FLIGHT" => Ok(found.flight() == paise(field(line, 4))?),
+        _ => Ok(true),
+    }
+}
+
+// Whether a history comes to what is reported.
+fn ends_so(alloc: Global, setup: &Setup, history: &[Entry], text: &[u8]) -> Result<bool, Fail> {
+    let found = found_in(alloc, setup.lines.items(), history)?;
+    for line in text.split(|c| *c == b'\n') {
+        if !line_is_so(alloc, &found, setup, line)? {
+            return Ok(false);
+        }
+    }
+    Ok(true)
+}
+
+// What of a row doesn't go as written: nothing, where it is empty.
+fn difference(alloc: Global, setup: &[u8], text: &[u8]) -> Result<&'static str, Fail> {
+    let setup = setup_of(alloc, setup)?;
+    let history = play(alloc, &setup, text)?;
+    let all = history.len() as u64;
+    if written(alloc, &history)?.as_slice() != wanted(alloc, text)?.as_slice() {
+        Ok("replies or messages")
+    } else if replay(alloc, &setup, &history)? != (Verdict::Yes { entries: all }) {
+        Ok("verdict")
+    } else if !ends_so(alloc, &setup, &history, text)? {
+        Ok("report")
+    } else {
+        Ok("")
+    }
+}
+
+#[test]
+fn payments_go_as_written(rt: HostRuntime) -> Result<(), Fail> {
+    let rows = [
+        ("a payment", rows::SETUP, rows::PAID),
+        ("the whole balance", rows::SETUP, rows::ALL_OF_IT),
+        ("more than the balance", rows::SETUP, rows::NO_FUNDS),
+        ("amounts", rows::SETUP, rows::AMOUNTS),
+        ("a payment asked for twice", rows::SETUP, rows::ASKED_TWICE),
+        ("up to the cap", rows::SETUP_BELOW_CAP, rows::UP_TO_CAP),
+        ("past the cap", rows::SETUP_AT_CAP, rows::PAST_CAP),
+        (
+            "a payee who takes no credits",
+            rows::SETUP_NO_CREDIT,
+            rows::NO_CREDIT,
+        ),
+        (
+            "a payee who refuses",
+            rows::SETUP_BOB_REFUSES,
+            rows::REFUSED,
+        ),
+        ("a close before the answer", rows::SETUP, rows::CLOSED_EARLY),
+    ];
+    for (name, setup, text) in rows {
+        assert_eq!(rt; difference(rt.alloc(), setup, text)?, "", "{name}");
+    }
+    Ok(())
+}
+
+#[test]
+fn losses_and_delays_go_as_written(rt: HostRuntime) -> Result<(), Fail> {
+    let rows = [
+        (
+            "a debit delivered three times",
+            rows::SETUP,
+            rows::DEBITED_THRICE,
+        ),
+        (
+            "a credit whose answer is lost",
+            rows::SETUP,
+            rows::CREDIT_UNHEARD,
+        ),
+        ("a credit that is lost", rows::SETUP, rows::CREDIT_LOST),
+        (
+            "a reversal before its debit",
+            rows::SETUP,
+            rows::REVERSED_FIRST,
+        ),
+        (
+            "a debit whose answer is lost",
+            rows::SETUP,
+            rows::DEBIT_UNHEARD,
+        ),
+        (
+            "confirmations without an answer",
+            rows::SETUP,
+            rows::UNCONFIRMED,
+        ),
+        ("an approval in time", rows::SETUP_ANN_ASKS, rows::IN_TIME),
+        ("an approval too late", rows::SETUP_ANN_ASKS, rows::EXPIRED),
+    ];
+    for (name, setup, text) in rows {
+        assert_eq!(rt; difference(rt.alloc(), setup, text)?, "", "{name}");
+    }
+    Ok(())
+}
+
+#[test]
+fn refusals_go_as_written(rt: HostRuntime) -> Result<(), Fail> {
+    let rows = [
+        (
+            "an approval of another amount",
+            rows::SETUP_ANN_ASKS,
+            rows::OTHER_AMOUNT,
+        ),
+        (
+            "an approval by the other PSP",
+            rows::SETUP_ANN_ASKS,
+            rows::OTHER_SENDER,
+        ),
+        (
+            "a status of an unknown payment",
+            rows::SETUP,
+            rows::UNKNOWN_TXN,
+        ),
+        (
+            "a payment within one account",
+            rows::SETUP_ONE_ACCOUNT,
+            rows::ONE_ACCOUNT,
+        ),
+        (
+            "an account that is not the payer's",
+            rows::SETUP,
+            rows::OTHER_ACCOUNT,
+        ),
+        ("a payee who is unknown", rows::SETUP, rows::UNKNOWN_PAYEE),
+        ("a payment by the other PSP", rows::SETUP, rows::OTHER_PSP),
+        (
+            "a confirmation before the outcome",
+            rows::SETUP,
+            rows::CONFIRMED_EARLY,
+        ),
+    ];
+    for (name, setup, text) in rows {
+        assert_eq!(rt; difference(rt.alloc(), setup, text)?, "", "{name}");
+    }
+    Ok(())
+}
+
+#[test]
+fn what_rows_leave_out_goes_as_written(rt: HostRuntime) -> Result<(), Fail> {
+    let rows = [
+        ("moments that go back", edges::SETUP_BOB_ASKS, edges::BACK),
+        (
+            "answers to the question",
+            edges::SETUP_BOB_ASKS,
+            edges::WORDS,
+        ),
+        ("what is refused", edges::SETUP_THREE, edges::ASKED),
+        ("what a close finds", edges::SETUP_FLAGS, edges::CLOSES),
+    ];
+    for (name, setup, text) in rows {
+        assert_eq!(rt; difference(rt.alloc(), setup, text)?, "", "{name}");
+    }
+    Ok(())
+}
+
+// What is done to an entry of a history.
+#[derive(Clone, Copy)]
+enum Spoil {
+    Replied(Reply),
+    Unsent,
+    SentTwice,
+    Turned,
+    At(u64),
+    Called(&'static [u8]),
+    Omitted,
+    Twice,
+    By(u64),
+}
+
+fn resent(alloc: Global, entry: &Entry, spoil: Spoil) -> Result<SentList, Fail> {
+    let mut list = entry.sent.copy(alloc)?.into_items();
+    match spoil {
+        Spoil::Unsent => list.clear(),
+        Spoil::Turned => list.reverse(),
+        Spoil::SentTwice => {
+            for sent in entry.sent.items() {
+                list.push(sent.copy(alloc)?)?;
+            }
+        }
+        _ => {}
+    }
+    Ok(SentList::of(list))
+}
+
+fn changed(alloc: Global, entry: &Entry, spoil: Spoil) -> Result<Entry, Fail> {
+    Ok(Entry {
+        call: match spoil {
+            Spoil::Called(line) => call_of(alloc, line)?,
+            _ => entry.call.copy(alloc)?,
+        },
+        at: match spoil {
+            Spoil::At(second) => Moment::of(second).ok_or("too late")?,
+            _ => entry.at,
+        },
+        caller: match spoil {
+            Spoil::By(caller) => caller,
+            _ => entry.caller,
+        },
+        reply: match spoil {
+            Spoil::Replied(reply) => reply,
+            _ => entry.reply,
+        },
+        sent: resent(alloc, entry, spoil)?,
+    })
+}
+
+// The history with the entry at a place changed.
+fn spoiled(
+    alloc: Global,
+    history: &[Entry],
+    place: usize,
+    spoil: Spoil,
+) -> Result<Vec<Entry>, Fail> {
+    let mut out = Vec::new(alloc);
+    for (i, entry) in history.iter().enumerate() {
+        if i + 1 != place {
+            out.push(entry.copy(alloc)?)?;
+            continue;
+        }
+        match spoil {
+            Spoil::Omitted => {}
+            Spoil::Twice => {
+                out.push(entry.copy(alloc)?)?;
+                out.push(entry.copy(alloc)?)?;
+            }
+            _ => out.push(changed(alloc, entry, spoil)?)?,
+        }
+    }
+    Ok(out)
+}
+
+#[test]
+fn the_first_wrong_entry_is_told(rt: HostRuntime) -> Result<(), Fail> {
+    let alloc = rt.alloc();
+    let setup = setup_of(alloc, rows::SETUP)?;
+    let history = play(alloc, &setup, rows::PAID)?;
+    let no = |entry, why| Verdict::No { entry, why };
+    let declined = Reply::Leg(Answer::Declined(Code::Funds));
+    let gamma = b"E 1 0 0 HEAR gamma PAY T1 30.00 ann@alpha bob@beta - - -".as_slice();
+    let table = [
+        (4, Spoil::Replied(declined), no(4, AuditWhy::Reply)),
+        (11, Spoil::Replied(Reply::Told), no(11, AuditWhy::Reply)),
+        (4, Spoil::Unsent, no(4, AuditWhy::Sent)),
+        (1, Spoil::SentTwice, no(1, AuditWhy::Sent)),
+        (7, Spoil::Turned, no(7, AuditWhy::Sent)),
+        (1, Spoil::Called(gamma), no(1, AuditWhy::Call)),
+        (
+            2,
+            Spoil::Called(b"E 2 0 0 DELIVER 2"),
+            no(2, AuditWhy::Call),
+        ),
+        (
+            2,
+            Spoil::Called(b"E 2 0 0 DELIVER 0"),
+            no(2, AuditWhy::Call),
+        ),
+        (2, Spoil::Called(b"E 2 0 0 LOSE 7"), no(2, AuditWhy::Call)),
+        (
+            10,
+            Spoil::Called(b"E 10 0 0 LATE T1"),
+            no(10, AuditWhy::Reply),
+        ),
+        (3, Spoil::At(1_704_067_230), no(3, AuditWhy::Reply)),
+        (3, Spoil::Omitted, no(3, AuditWhy::Call)),
+        (4, Spoil::Twice, no(7, AuditWhy::Reply)),
+        (8, Spoil::Omitted, Verdict::Yes { entries: 10 }),
+        (8, Spoil::Twice, Verdict::Yes { entries: 12 }),
+        (5, Spoil::By(9), Verdict::Yes { entries: 11 }),
+    ];
+    for (i, (place, spoil, verdict)) in table.iter().enumerate() {
+        let copy = spoiled(alloc, &history, *place, *spoil)?;
+        assert!(rt; replay(alloc, &setup, &copy)? == *verdict, "{i}");
+    }
+    Ok(())
+}
