@@ -4,7 +4,7 @@ use std::alloc::Global;
 use std::test::Fail;
 use upi_base::{
     AcNum, AccountRef, Answer, AuditWhy, BankCode, Call, Code, Entry, Moment, Paise, Reply,
-    SentList, Setup, TxnId, Verdict, account_named,
+    SentList, Setup, TxnId, Verdict, account_named, txn_shard, write_number,
 };
 use upi_replay::{Found, found_in, replay};
 
@@ -336,5 +336,72 @@ fn the_first_wrong_entry_is_told(rt: HostRuntime) -> Result<(), Fail> {
         let copy = spoiled(alloc, &history, *place, *spoil)?;
         assert!(rt; replay(alloc, &setup, &copy)? == *verdict, "{i}");
     }
+    Ok(())
+}
+
+// The name of a payment.
+fn name(alloc: Global, number: u64) -> Result<Vec<u8>, Fail> {
+    let mut name = Vec::new(alloc);
+    name.extend_from_slice(b"L")?;
+    write_number(number, &mut name)?;
+    Ok(name)
+}
+
+fn shard_of(alloc: Global, number: u64) -> Result<u8, Fail> {
+    let name = name(alloc, number)?;
+    Ok(txn_shard(&TxnId::read(&name).ok_or("no name")?))
+}
+
+// The numbers of so many payments whose names have the first shard.
+fn first_shard(alloc: Global, count: usize) -> Result<Vec<u64>, Fail> {
+    let mut numbers = Vec::new(alloc);
+    for number in 0..100_000 {
+        if numbers.len() < count && shard_of(alloc, number)? == 0 {
+            numbers.push(number)?;
+        }
+    }
+    Ok(numbers)
+}
+
+// Alpha asks for a payment of this number.
+fn asked_for(alloc: Global, number: u64) -> Result<Call, Fail> {
+    let mut line = Vec::new(alloc);
+    line.extend_from_slice(b"E 1 0 0 HEAR alpha PAY ")?;
+    line.extend_from_slice(&name(alloc, number)?)?;
+    line.extend_from_slice(b" 0.01 ann@alpha bob@beta = OK")?;
+    call_of(alloc, &line)
+}
+
+// The history in which these payments were asked for.
+fn asked(alloc: Global, numbers: &[u64]) -> Result<Vec<Entry>, Fail> {
+    let mut history = Vec::new(alloc);
+    for number in numbers {
+        history.push(Entry {
+            call: asked_for(alloc, *number)?,
+            at: Moment::of(0).ok_or("no moment")?,
+            caller: 0,
+            reply: Reply::Ack(None),
+            sent: SentList::new(alloc),
+        })?;
+    }
+    Ok(history)
+}
+
+#[test]
+fn a_shard_is_full(rt: HostRuntime) -> Result<(), Fail> {
+    let alloc = rt.alloc();
+    let setup = setup_of(alloc, rows::SETUP)?;
+    let lines = setup.lines.items();
+    let now = Moment::of(0).ok_or("no moment")?;
+    let mut numbers = first_shard(alloc, 4097)?;
+    let last = numbers.pop().ok_or("no numbers")?;
+    let history = asked(alloc, &numbers)?;
+    let found = found_in(alloc, lines, &history)?;
+    assert_eq!(rt; found.rows.len(), 4096);
+    let full = found.reply(lines, &history, &asked_for(alloc, last)?, now);
+    assert_eq!(rt; full, Reply::Ack(Some(Code::Full)));
+    assert!(rt; shard_of(alloc, 1)? != 0);
+    let other = found.reply(lines, &history, &asked_for(alloc, 1)?, now);
+    assert_eq!(rt; other, Reply::Ack(None));
     Ok(())
 }
