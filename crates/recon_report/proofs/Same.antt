@@ -21,12 +21,12 @@ use Rattle.upi_laws.specs.Places.{opened, opening, decision, debit, credit, reve
 use Rattle.upi_laws.specs.Outcomes.{outcome_by, outcome_of}
 use Rattle.upi_laws.specs.Postings.{answer, is_posted, balance, flight}
 use Rattle.upi_laws.specs.Settlement.{bank_at, is_settled, is_deemed, items_of, settle, received_in, paid_in, net, unmatched, accounts, banks}
+use Rattle.upi_base.proofs.Lists.{sum_flat_map, sum_all, sum_map}
 use Rattle.upi_laws.proofs.Openings.{openings_are_found}
-use Rattle.upi_laws.proofs.Sums.{sum_flat_map, sum_all}
 use Rattle.upi_replay.specs.declared.rows.Row.{Row}
 use Rattle.upi_replay.specs.declared.found.Found.{Found}
 use Rattle.upi_replay.specs.Rows.{row_of, rows_of, row_outcome, IsFound}
-use Rattle.upi_replay.proofs.Steps.{balance_is, sum_map}
+use Rattle.upi_replay.proofs.Steps.{balance_is}
 use Rattle.recon_report.specs.Report.{header, outcome_line, outcome_lines, settle_line, settle_lines, net_line, net_lines, recon_line, recon_lines, balance_line, balance_lines, flight_line, report_text}
 use Rattle.recon_report.specs.ByRows.{row_outcome_line, paid_line, received_line, row_settle_lines, settle_lines_at, row_received, row_paid, rows_received, rows_paid, rows_net, net_line_at, row_recon_line, balance_line_at, row_flight, rows_flight, report_of_rows}
 

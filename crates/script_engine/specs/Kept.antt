@@ -15,8 +15,8 @@ use Rattle.upi_base.specs.declared.fault.Why.TheVariants as reason
 use Rattle.script_engine.specs.End.{finished}
 use Rattle.script_engine.specs.declared.engine.Turn.{Turn}
 use Rattle.script_engine.specs.declared.engine.Turn.TheVariants as turn
-use Rattle.script_engine.specs.declared.engine.EngineFault.{EngineFault}
-use Rattle.script_engine.specs.declared.engine.EngineFault.TheVariants as fault
+use Rattle.upi_base.specs.declared.fault.EngineFault.{EngineFault}
+use Rattle.upi_base.specs.declared.fault.EngineFault.TheVariants as fault
 use Rattle.script_engine.specs.Script.{max_sends}
 use Rattle.script_engine.specs.Play.{Play, Played, is_taken, lowest_pending, run_turn, run_turns, run_all, after_text, play_line}
 

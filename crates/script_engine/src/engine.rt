@@ -8,23 +8,9 @@ use crate::line::{ScriptRead, call_part, setup_part};
 use recon_report::report;
 use std::alloc::Global;
 use std::marker::Model;
-use upi_base::{Call, Entry, Input, Message, Moment, NoMemory, PspName, Why};
+use upi_base::{Call, EngineFault, Entry, Input, Message, Moment, NoMemory, PspName, Why};
 use upi_replay::Found;
 use upi_text::{Refusal, SetupRead, SetupText};
-
-/// Why an engine refused a line.
-#[derive(Clone, Copy, Debug, PartialEq, Eq)]
-pub enum EngineFault {
-    /// The line is outside the grammar, at this word, for this reason.
-    Bad {
-        /// The number of the word, the first being 1; 0 stands for the whole line.
-        field: u32,
-        /// What is wrong with it.
-        why: Why,
-    },
-    /// There was no memory. The engine isn't to be used any more.
-    NoMemory,
-}
 
 /// What a turn of RUN did.
 #[derive(Clone, Copy, Debug, PartialEq, Eq)]

@@ -5,5 +5,6 @@ pub mod call;
 pub mod engine;
 pub mod line;
 
-pub use engine::{Engine, EngineFault};
+pub use engine::Engine;
 pub use line::ScriptRead;
+pub use upi_base::EngineFault;

@@ -1,3 +1,5 @@
 pub mod Cuts
 pub mod Setups
+pub mod Plays
 pub mod Runs
+pub mod Wholes

@@ -1,5 +1,5 @@
 -- Runs over lines, from line to line and to their ends.
-use Rattle.std.proofs.Common.{◌≡◌, ℕ, ◌+◌, ◌<◌, ◌≤◌, List, [], ◌∷◌, ◌++◌, length, take, Option, None, Result, Ok, Err, refl, sym, ap, subst, ◌∙◌, inl, inr, arith, append_assoc, append-nil, length-append}
+use Rattle.std.proofs.Common.{◌≡◌, ℕ, ◌+◌, ◌<◌, ◌≤◌, List, [], ◌∷◌, ◌++◌, length, take, Option, None, Ok, refl, sym, ap, subst, ◌∙◌, inl, inr, arith, length-append}
 use Rattle.std.specs.Io.KnownBytes.{prepend_known, append_known}
 use Rattle.upi_io.specs.Lines.{max_lines, AnswersAhead}
 use Rattle.upi_io.specs.declared.lines.Line.TheVariants.{Got, End}
@@ -7,38 +7,13 @@ use Rattle.upi_io.specs.declared.status.Status.{Status}
 use Rattle.upi_io.specs.declared.status.Status.TheVariants.{Done, Usage, BadLine, TooLong, ReadFault, WriteFault, NoMemory}
 use Rattle.upi_io.proofs.Ahead.{append_twice, append_nothing}
 use Rattle.upi_laws.specs.Legal.{Legal}
-use Rattle.upi_text.specs.declared.refusal.Refusal.{Refusal}
-use Rattle.script_engine.specs.Play.{Play, Played, blank, play_line, after_text}
+use Rattle.script_engine.specs.Play.{Play, blank}
 use Rattle.script_engine.specs.End.{finished}
-use Rattle.switch_cli.specs.Run.{onto, and_then, play_from, Finishes, IsRefused, AreTooMany, EndsEarly, StopsInLine, StopsAtEnd, EndsBy, Ran}
+use Rattle.switch_cli.specs.Run.{Finishes, IsRefused, AreTooMany, EndsEarly, StopsInLine, StopsAtEnd, EndsBy, Ran}
 use Rattle.switch_cli.specs.Steps.{StopsBy, LineStops, LineAnswered, EndAnswered, Going}
+use Rattle.switch_cli.proofs.Plays.{one_more}
 use Rattle.switch_cli.proofs.Setups.{trusted, trusted_end}
 use Rattle.switch_cli.proofs.Cuts.{none_read, any_read, all_read, many_read, long_read, next_read, one_more_read}
-
--- ---- one line more
-
-abbrev ok : Played → Result Played Refusal
-ok q = Ok q
-
-same_played : (q r : Played) → ok q ≡ ok r → q ≡ r
-same_played q r e = cc
-
-last_line : (p : Play) (l : List ℕ) (q : Played) → play_line p l ≡ Ok q → play_from (l ∷ []) p ≡ Ok (after_text [] q)
-last_line p l q e = ap (λ r. and_then r (play_from [])) e ∙ ap (λ t. Ok (record { play = q.play; text = t })) (append-nil q.text)
-
-pub one_more : (ls : List (List ℕ)) (p : Play) (l : List ℕ) (q r : Played) → play_from ls p ≡ Ok q → play_line q.play l ≡ Ok r → play_from (ls ++ l ∷ []) p ≡ Ok (after_text q.text r)
-one_more [] p l q r e f =
-    subst (λ (x : Played). play_line x.play l ≡ Ok r → play_from (l ∷ []) p ≡ Ok (after_text x.text r)) (same_played (record { play = p; text = [] }) q e) (last_line p l r) f
-one_more (m ∷ ms) p l q r e f = go (λ x s k g. one_more ms x.play l s r k g) (play_line p m) e f
-  where
-    deep : (x : Played) → ((s : Played) → play_from ms x.play ≡ Ok s → play_line s.play l ≡ Ok r → play_from (ms ++ l ∷ []) x.play ≡ Ok (after_text s.text r)) → (s : Result Played Refusal) → play_from ms x.play ≡ s → onto x.text s ≡ Ok q → play_line q.play l ≡ Ok r → onto x.text (play_from (ms ++ l ∷ []) x.play) ≡ Ok (after_text q.text r)
-    deep x ih (Ok s) k e f =
-        subst (λ (y : Played). play_line y.play l ≡ Ok r → onto x.text (play_from (ms ++ l ∷ []) x.play) ≡ Ok (after_text y.text r)) (same_played (after_text x.text s) q e) (λ g. ap (onto x.text) (ih s k g) ∙ ap (λ t. Ok (record { play = r.play; text = t })) (sym (append_assoc x.text s.text r.text))) f
-    deep x ih (Err s) k e f = absurd cc
-
-    go : ((x s : Played) → play_from ms x.play ≡ Ok s → play_line s.play l ≡ Ok r → play_from (ms ++ l ∷ []) x.play ≡ Ok (after_text s.text r)) → (x : Result Played Refusal) → and_then x (play_from ms) ≡ Ok q → play_line q.play l ≡ Ok r → and_then x (play_from (ms ++ l ∷ [])) ≡ Ok (after_text q.text r)
-    go ih (Ok x) e f = deep x (ih x) (play_from ms x.play) refl e f
-    go ih (Err x) e f = absurd cc
 
 -- ---- where nothing was read yet
 

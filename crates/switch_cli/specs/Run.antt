@@ -1,10 +1,11 @@
 -- A script that is run over the lines of a source: what is written, and how it ends.
-use Rattle.std.specs.Prelude.{◌≡◌, ◌⊎◌, ℕ, ◌+◌, ◌<◌, ◌≤◌, true, false, List, [], ◌∷◌, ◌++◌, length, take, Option, Result, Ok, Err}
+use Rattle.std.specs.Prelude.{◌≡◌, ◌⊎◌, ℕ, ◌+◌, ◌<◌, ◌≤◌, true, false, List, [], ◌∷◌, ◌++◌, length, map, take, Option, Some, None, Result, Ok, Err}
+use Rattle.std.specs.List.{list_all}
 use Rattle.std.specs.Io.KnownBytes.{append_known}
 use Rattle.upi_base.specs.declared.fault.Why.{Why}
 use Rattle.upi_base.specs.declared.fault.Why.TheVariants as why
 use Rattle.upi_base.specs.Setup.{is_setup}
-use Rattle.upi_io.specs.Lines.{max_lines}
+use Rattle.upi_io.specs.Lines.{raw_lines, text_of, max_lines}
 use Rattle.upi_io.specs.declared.status.Status.{Status}
 use Rattle.upi_io.specs.declared.status.Status.TheVariants as status
 use Rattle.upi_laws.specs.Legal.{Legal}
@@ -13,7 +14,7 @@ use Rattle.upi_text.specs.Refusals.{refusal}
 use Rattle.upi_text.specs.declared.refusal.Refusal.{Refusal}
 use Rattle.script_engine.specs.Play.{Play, Played, blank, play_line, after_text}
 use Rattle.script_engine.specs.End.{finished}
-use Rattle.switch_cli.specs.Lines.{AreRead, IsAny, IsOver, IsMore, IsNext, IsLong}
+use Rattle.switch_cli.specs.Lines.{is_short, AreRead, IsAny, IsOver, IsMore, IsNext, IsLong}
 
 -- more is played, behind a text
 abbrev pub onto : List ℕ → Result Played Refusal → Result Played Refusal
@@ -110,3 +111,22 @@ pub record Ran (source before after : Option (List ℕ)) (s : Status) : Type 0 w
   pub trusted : IsTrusted played.play
   pub wrote : after ≡ append_known before (played.text ++ part)
   pub ends : EndsBy source texts played.play part s
+
+-- ---- a run of a whole script
+
+-- The lines of these bytes are a script, and play to this: none of them is outside the grammar, and OPEN is among them.
+pub record IsScript (bytes : List ℕ) (q : Played) : Type 0 where
+  pub few : length (raw_lines bytes) ≤ max_lines
+  pub short : list_all is_short (raw_lines bytes) ≡ true
+  pub plays : play (map text_of (raw_lines bytes)) ≡ Ok q
+  pub ready : q.play.ready ≡ true
+
+-- all of it is done, and its whole text written
+pub record IsWhole (q : Played) (before after : Option (List ℕ)) (s : Status) : Type 0 where
+  pub done : s ≡ status.Done
+  pub wrote : after ≡ append_known before (q.text ++ (finished q.play).text)
+
+-- A source of a script ends in this alone, or for want of memory.
+abbrev pub Completes : Option (List ℕ) → Option (List ℕ) → Option (List ℕ) → Status → Type 0
+Completes None before after s = Unit {0}
+Completes (Some bytes) before after s = (q : Played) → IsScript bytes q → (s ≡ status.NoMemory) ⊎ IsWhole q before after s

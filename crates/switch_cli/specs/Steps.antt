@@ -8,8 +8,8 @@ use Rattle.upi_io.specs.declared.lines.LineFault.TheVariants as line
 use Rattle.upi_io.specs.declared.status.Status.{Status}
 use Rattle.upi_io.specs.declared.status.Status.TheVariants as status
 use Rattle.upi_text.specs.Refusals.{refusal}
-use Rattle.script_engine.specs.declared.engine.EngineFault.{EngineFault}
-use Rattle.script_engine.specs.declared.engine.EngineFault.TheVariants as fault
+use Rattle.upi_base.specs.declared.fault.EngineFault.{EngineFault}
+use Rattle.upi_base.specs.declared.fault.EngineFault.TheVariants as fault
 use Rattle.script_engine.specs.Play.{Play, Played, play_line}
 use Rattle.script_engine.specs.End.{finished}
 use Rattle.switch_cli.specs.Lines.{BeginWith}

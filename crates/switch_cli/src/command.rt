@@ -2,7 +2,7 @@
 ghost use Rattle.std.specs.Prelude.{◌≡◌, ◌↔◌, true, false, codes};
 ghost use Rattle.upi_io.specs.Faults.{Rose};
 ghost use Rattle.upi_io.specs.Words.{is_one_word};
-ghost use Rattle.switch_cli.specs.Run.{Ran};
+ghost use Rattle.switch_cli.specs.Run.{Ran, Completes};
 
 use crate::script::run_script;
 use std::alloc::Global;
@@ -25,6 +25,8 @@ pub fn run<S: Source, K: Sink>(alloc: Global, words: &Words, source: &mut S, sin
     ensures read { result ≡ Status.ReadFault → Rose (S.faults source.old) (S.faults source.new) }
     ensures write { result ≡ Status.WriteFault → Rose (K.faults sink.old) (K.faults sink.new) }
     ensures ended { result ≡ Status.Done → S.ended source.new ≡ true }
+    // Where neither failed, a source of a script is run to its end, or there was no memory.
+    ensures complete { is_one_word (codes "script") words.now ≡ true → (Rose (S.faults source.old) (S.faults source.new) → ⊥) → (Rose (K.faults sink.old) (K.faults sink.new) → ⊥) → Completes (S.left source.old) (K.taken sink.old) (K.taken sink.new) result }
 {
     if !words.is_one_word("script") {
         return Status::Usage;

@@ -25,18 +25,25 @@ fn words(rt: &(impl Env + AllocGlobal), alloc: Global) -> Result<Words, Status> 
     Ok(Words::of(list))
 }
 
+// The room of a status's line, in bytes: no status has a longer one.
+const LINE_ROOM: usize = 100;
+
 fn main(rt: HostRuntime) -> ExitCode {
     let alloc = rt.alloc();
     let mut source = Reading::new(rt.reader());
     let mut sink = Writing::new(io::writer(&rt));
-    let status = match words(&rt, alloc) {
-        Ok(words) => run(alloc, &words, &mut source, &mut sink),
-        Err(status) => status,
-    };
+    // The memory of the line is taken before anything is read, so that no end goes unsaid for want of it.
     let mut line = Vec::new(alloc);
-    if status.write_line(&mut line).is_ok() {
-        // Where standard error can't be written, the exit code still tells.
-        let _ = rt.stderr().write_all(&line);
-    }
+    let status = match (line.reserve(LINE_ROOM), words(&rt, alloc)) {
+        (Ok(()), Ok(words)) => run(alloc, &words, &mut source, &mut sink),
+        (Ok(()), Err(status)) => status,
+        (Err(_), _) => Status::NoMemory,
+    };
+    let text: &[u8] = match status.write_line(&mut line) {
+        Ok(()) => &line,
+        Err(_) => b"upi: no memory\n",
+    };
+    // Where standard error can't be written, the exit code still tells.
+    let _ = rt.stderr().write_all(text);
     ExitCode::from(status.code())
 }

@@ -4,6 +4,7 @@ pub mod Dates
 pub mod Hashes
 pub mod Civils
 pub mod Stamps
+pub mod Options
 pub mod Lists
 pub mod Again
 pub mod Setups

@@ -1,12 +1,14 @@
--- Lemmas on lists and options that every layer uses: beginnings, picks, places, sums.
-use Rattle.std.proofs.Common.{◌≡◌, ℕ, suc, ◌+◌, ◌≤◌, Bool, true, false, cond, List, [], ◌∷◌, ◌++◌, length, Option, Some, None, refl, ap, sym, ◌∙◌, arith, append_assoc, length-append, inl, inr, ◌⊎◌}
-use Rattle.std.specs.Prelude.{if◌then◌else◌, is_some}
+-- Lemmas on lists that every layer uses: beginnings, picks, places, sums.
+use Rattle.std.proofs.Common.{◌≡◌, ℕ, suc, ◌+◌, ◌≤◌, Bool, true, false, List, [], ◌∷◌, ◌++◌, length, map, Option, Some, None, refl, ap, sym, ◌∙◌, arith, append_assoc, length-append}
+use Rattle.std.specs.Prelude.{if◌then◌else◌}
 use Rattle.std.specs.Option.{option_or, option_and_then}
-use Rattle.std.specs.List.{sum_by}
+use Rattle.std.specs.List.{AllByRecursion, sum_by, flat_map}
 use Rattle.std.proofs.lemmas.List.{append-nil}
 use Rattle.std.proofs.lemmas.List.Sums.{sum_by-cons, sum_by-append}
+use Rattle.std.proofs.lemmas.List.Concat.{flat_map-cons}
 use mathlib.Core.List.{IsPrefix}
-use Rattle.upi_base.specs.Lists.{when, pick, joined, picked}
+use Rattle.upi_base.specs.Lists.{pick, joined, picked}
+use Rattle.upi_base.proofs.Options.{or_assoc, or_none}
 
 -- `IsPrefix xs ys`: a list `p.0` follows xs, `p.1 : xs ++ p.0 ≡ ys`
 module _ {A : Type 0} where
@@ -84,48 +86,6 @@ module _ {A : Type 0} where
       let len = ap length same in
       omega (arith, le, here, len)
 
--- options, one after the other
-module _ {X : Type 0} where
-  pub or_cases : (o p : Option X) (x : X) → option_or o p ≡ Some x → (o ≡ Some x) ⊎ ((o ≡ None) × (p ≡ Some x))
-  or_cases None p x h = inr (refl, h)
-  or_cases (Some y) p x h = inl h
-
-  pub or_stays : (o p : Option X) (x : X) → o ≡ Some x → option_or o p ≡ Some x
-  or_stays None p x h = absurd cc
-  or_stays (Some y) p x h = h
-
-  pub or_none : (o p : Option X) → o ≡ None → option_or o p ≡ p
-  or_none None p h = refl
-  or_none (Some y) p h = absurd cc
-
-  pub or_assoc : (o p q : Option X) → option_or (option_or o p) q ≡ option_or o (option_or p q)
-  or_assoc None p q = refl
-  or_assoc (Some x) p q = refl
-
-  pub or_nothing : (o : Option X) → option_or o None ≡ o
-  or_nothing None = refl
-  or_nothing (Some x) = refl
-
-  pub guarded : (b : Bool) (o : Option X) (x : X) → cond b None o ≡ Some x → (b ≡ false) × (o ≡ Some x)
-  guarded true o x h = absurd cc
-  guarded false o x h = (refl, h)
-
-  pub when_true : (b : Bool) (x y : X) → when b x ≡ Some y → (b ≡ true) × (x ≡ y)
-  when_true true x y h = (refl, cc)
-  when_true false x y h = absurd cc
-
-  pub some_value : (o : Option X) → is_some o ≡ true → (x : X) × (o ≡ Some x)
-  some_value None h = absurd cc
-  some_value (Some x) h = (x, refl)
-
-  pub some_is : (o : Option X) (x : X) → o ≡ Some x → is_some o ≡ true
-  some_is None x h = absurd cc
-  some_is (Some y) x h = refl
-
-  pub none_is : (o : Option X) → is_some o ≡ false → o ≡ None
-  none_is None h = refl
-  none_is (Some x) h = absurd cc
-
 -- the first that fits
 module _ {X A : Type 0} (f : A → Option X) where
   pub pick-append : (xs ys : List A) → pick f (xs ++ ys) ≡ option_or (pick f xs) (pick f ys)
@@ -133,10 +93,10 @@ module _ {X A : Type 0} (f : A → Option X) where
   pick-append (x ∷ xs) ys = ap (λ o. option_or (f x) o) (pick-append xs ys) ∙ sym (or_assoc (f x) (pick f xs) (pick f ys))
 
   pub pick-push : (xs : List A) (y : A) → pick f (xs ++ y ∷ []) ≡ option_or (pick f xs) (f y)
-  pick-push xs y = pick-append xs (y ∷ []) ∙ ap (λ o. option_or (pick f xs) o) (or_nothing (f y))
+  pick-push xs y = pick-append xs (y ∷ []) ∙ ap (λ o. option_or (pick f xs) o) (or_none (f y))
 
   pub pick_joined : (xs : List A) (o : Option A) → pick f (joined xs o) ≡ option_or (pick f xs) (option_and_then f o)
-  pick_joined xs None = sym (or_nothing (pick f xs))
+  pick_joined xs None = sym (or_none (pick f xs))
   pick_joined xs (Some y) = pick-push xs y
 
 -- sums, beside `sum_by-cons` and `sum_by-append` of std's lemmas on sums
@@ -157,3 +117,22 @@ module _ {X : Type 0} where
   pub sum_none : (xs : List X) → sum_by (λ (x : X). 0) xs ≡ 0
   sum_none [] = refl
   sum_none (x ∷ xs) = omega (arith, sum_by-cons (λ (y : X). 0) x xs, sum_none xs)
+
+  pub sum_all : (f g : X → ℕ) (P : X → Type 0) → ((x : X) → P x → f x ≡ g x) → (xs : List X) → AllByRecursion P xs → sum_by f xs ≡ sum_by g xs
+  sum_all f g P e [] k = refl
+  sum_all f g P e (x ∷ xs) k = omega (arith, e x k.0, sum_all f g P e xs k.1, sum_by-cons f x xs, sum_by-cons g x xs)
+
+  pub sum_le : (f g : X → ℕ) → ((x : X) → f x ≤ g x) → (xs : List X) → sum_by f xs ≤ sum_by g xs
+  sum_le f g le [] = omega arith
+  sum_le f g le (x ∷ xs) = omega (arith, sum_le f g le xs, le x, sum_by-cons f x xs, sum_by-cons g x xs)
+
+-- sums over a list that another gave
+module _ {X Y : Type 0} (f : Y → ℕ) where
+  pub sum_map : (g : X → Y) (xs : List X) → sum_by f (map g xs) ≡ sum_by (λ (x : X). f (g x)) xs
+  sum_map g [] = refl
+  sum_map g (x ∷ xs) = omega (arith, sum_by-cons f (g x) (map g xs), sum_map g xs, sum_by-cons (λ (x : X). f (g x)) x xs)
+
+  pub sum_flat_map : (g : X → List Y) (xs : List X) → sum_by f (flat_map g xs) ≡ sum_by (λ (x : X). sum_by f (g x)) xs
+  sum_flat_map g [] = refl
+  sum_flat_map g (x ∷ xs) =
+      omega (arith, ap (sum_by f) (flat_map-cons g x xs), sum_by-append f (g x) (flat_map g xs), sum_flat_map g xs, sum_by-cons (λ (x : X). sum_by f (g x)) x xs)

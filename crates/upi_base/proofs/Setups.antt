@@ -18,7 +18,8 @@ use Rattle.upi_base.specs.declared.fault.Why.{Why}
 use Rattle.upi_base.specs.Lists.{when}
 use Rattle.upi_base.specs.Money.{max_paise}
 use Rattle.upi_base.specs.Setup.{same_account, provider, names_bank, names_psp, account_in, listing_in, has_bank, has_psp, account_named, listing_at, setup_fault, accepts_from, is_setup, line_accounts, accounts, IsNamed, AcceptedAreSound, SetupsExtend, OpensWithin}
-use Rattle.upi_base.proofs.Lists.{or_cases, or_stays, or_none, when_true, some_value, some_is, none_is, pick-push}
+use Rattle.upi_base.proofs.Options.{some_is, is_some_has, no_some, or_cases, or_stays, or_second, when_true}
+use Rattle.upi_base.proofs.Lists.{pick-push}
 
 -- one line more
 
@@ -69,7 +70,7 @@ bytes_eq_is a b h = (bytes_eq-Decides a b).0 h
 
 pub account_stays : (S : List SetupLine) (l : SetupLine) (ac : AccountRef) → is_some (account_named S ac) ≡ true → account_named (S ++ l ∷ []) ac ≡ account_named S ac
 account_stays S l ac h =
-    let found = some_value (account_named S ac) h in
+    let found = is_some_has (account_named S ac) h in
     pick-push (account_in ac) S l ∙ (or_stays (account_named S ac) (account_in ac l) found.0 found.1 ∙ sym found.1)
 
 pub account_is_stays : (S : List SetupLine) (l : SetupLine) (ac : AccountRef) → is_some (account_named S ac) ≡ true → is_some (account_named (S ++ l ∷ []) ac) ≡ true
@@ -87,7 +88,7 @@ bank_stays S l code h = list_any-append (names_bank code) S (l ∷ []) ∙ or_tr
 
 -- what a line was accepted by
 
-not_false : (b : Bool) → not b ≡ false → b ≡ true
+pub not_false : (b : Bool) → not b ≡ false → b ≡ true
 not_false true h = refl
 not_false false h = absurd cc
 
@@ -118,7 +119,7 @@ account_fits : (S : List SetupLine) (ac : AccountRef) (opening : ℕ) (no_debit 
 account_fits S ac opening no_debit no_credit h =
     let first = passes _ _ _ h in
     let second = passes _ _ _ first.1 in
-    record { bank = not_false (has_bank S ac.bank) first.0; fresh = none_is (account_named S ac) second.0 }
+    record { bank = not_false (has_bank S ac.bank) first.0; fresh = no_some (account_named S ac) second.0 }
 
 -- addresses
 
@@ -239,7 +240,7 @@ line_named S (line.Account ac opening no_debit no_credit) free =
     let fits = account_fits S ac opening no_debit no_credit free in
     let x = line.Account ac opening no_debit no_credit in
     let self : account_in ac x ≡ Some (record { ac = ac; opening = opening; no_debit = no_debit; no_credit = no_credit }) = ap (λ b. when b (record { ac = ac; opening = opening; no_debit = no_debit; no_credit = no_credit })) (same_account_self ac) in
-    (pick-push (account_in ac) S x ∙ (or_none (account_named S ac) (account_in ac x) fits.fresh ∙ self), tt)
+    (pick-push (account_in ac) S x ∙ (or_second (account_named S ac) (account_in ac x) fits.fresh ∙ self), tt)
 
 named_stays : (S : List SetupLine) (x : SetupLine) (a : Account) → IsNamed S a → IsNamed (S ++ x ∷ []) a
 named_stays S x a h = account_stays S x a.ac (some_is (account_named S a.ac) a h) ∙ h

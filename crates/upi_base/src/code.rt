@@ -1,4 +1,4 @@
-//! Kinds, codes, answers, outcomes and replies.
+//! Kinds, phases, codes, answers, outcomes and replies.
 
 /// What a payment is: a PAY, which the payer's PSP asks for, or a COLLECT, which the payee's PSP
 /// asks for (`Txn.type`).
@@ -15,6 +15,17 @@ pub enum Leg {
     Debit,
     Credit,
     Reversal,
+}
+
+/// Where a transaction stands: it waits for the asked PSP, for the answer to its debit, for the
+/// answer to its credit, for its reversal, or for nothing any more.
+#[derive(Clone, Copy, Debug, PartialEq, Eq)]
+pub enum Phase {
+    Asking,
+    Debiting,
+    Crediting,
+    Reversing,
+    Ended,
 }
 
 /// How a model PSP answers for an address: yes, no, or not at all.

@@ -5,7 +5,7 @@ use crate::code::Reply;
 use crate::fault::NoMemory;
 use crate::message::Input;
 use crate::moment::Moment;
-use crate::sent::SentList;
+use crate::sent::{Sent, SentList};
 use crate::{PspName, TxnId};
 use std::alloc::Global;
 
@@ -38,6 +38,37 @@ impl Call {
             Call::Lose(number) => Ok(Call::Lose(*number)),
             Call::Late(txn) => Ok(Call::Late(txn.copy())),
             Call::Close => Ok(Call::Close),
+        }
+    }
+}
+
+/// A call on the shard of one transaction: it holds the message that it is about, not its number.
+/// Close isn't among them, for it is for every shard at once.
+#[derive(Drop, PartialEq)]
+pub enum ShardCall {
+    /// A PSP sends something.
+    Hear { psp: PspName, input: Input },
+    /// This message is handed to its receiver.
+    Deliver(Sent),
+    /// This message is lost.
+    Lose(Sent),
+    /// The transaction may be due.
+    Late(TxnId),
+}
+
+impl ShardCall {
+    /// The same call. It fails only for want of memory.
+    pub fn copy(&self, alloc: Global) -> Result<ShardCall, NoMemory>
+        ensures { IfOk result (λ x. x ≡ self.now) }
+    {
+        match self {
+            ShardCall::Hear { psp, input } => Ok(ShardCall::Hear {
+                psp: psp.copy(),
+                input: input.copy(alloc)?,
+            }),
+            ShardCall::Deliver(sent) => Ok(ShardCall::Deliver(sent.copy(alloc)?)),
+            ShardCall::Lose(sent) => Ok(ShardCall::Lose(sent.copy(alloc)?)),
+            ShardCall::Late(txn) => Ok(ShardCall::Late(txn.copy())),
         }
     }
 }

@@ -1,4 +1,4 @@
-// Want of memory.
+// Want of memory, and why a line was refused.
 use std::alloc::{AllocError, AllocFailed};
 
 /// There was no memory.
@@ -42,4 +42,18 @@ pub enum Why {
     End,
     /// It can't be done yet.
     Unbuilt,
+}
+
+/// Why an engine refused a line.
+#[derive(Clone, Copy, Debug, PartialEq, Eq)]
+pub enum EngineFault {
+    /// The line is outside the grammar, at this word, for this reason.
+    Bad {
+        /// The number of the word, the first being 1; 0 stands for the whole line.
+        field: u32,
+        /// What is wrong with it.
+        why: Why,
+    },
+    /// There was no memory. The engine isn't to be used any more.
+    NoMemory,
 }

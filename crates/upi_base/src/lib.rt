@@ -24,12 +24,12 @@ mod stamp;
 pub mod text;
 
 pub use boxed::Boxed;
-pub use code::{Answer, Code, Kind, Leg, Outcome, Policy, Reply};
+pub use code::{Answer, Code, Kind, Leg, Outcome, Phase, Policy, Reply};
 pub use directory::{
     account_at, account_named, has_bank, has_psp, listing_at, provider, same_account, setup_fault,
 };
-pub use entry::{Call, Done, Entry};
-pub use fault::{NoMemory, Why};
+pub use entry::{Call, Done, Entry, ShardCall};
+pub use fault::{EngineFault, NoMemory, Why};
 pub use message::{Api, AuthResp, BadMessage, Chk, ConfResp, Head, Input, Message, MsgWhy, PayReq};
 pub use minutes::Minutes;
 pub use moment::Moment;
@@ -38,7 +38,7 @@ pub use rules::{
     AccountRule, AddressRule, BankRule, MessageRule, NoteRule, OrgRule, PathRule, PspRule, TxnRule,
 };
 pub use sent::{AuthQuestion, Body, Party, Sent, SentList};
-pub use settled::{AuditWhy, Item, Position, Recon, Side, TxnRow, Verdict};
+pub use settled::{AuditWhy, Item, Position, Recon, Side, Summary, TxnRow, Verdict};
 pub use setup::{Account, AccountRef, Listing, Setup, SetupLine, SetupLines, write_account};
 pub use shards::{account_shard, txn_shard};
 pub use text::{Rule, Text};

@@ -1,4 +1,4 @@
-//! What settlement and reconciliation list, and the verdict over a history.
+//! What settlement and reconciliation list, the counts of a history, and the verdict over it.
 use crate::code::Outcome;
 use crate::paise::Paise;
 use crate::setup::AccountRef;
@@ -48,6 +48,25 @@ pub struct Position {
     pub debits: u64,
     pub reversals: u64,
     pub credits: u64,
+}
+
+/// The counts of a history.
+#[derive(Clone, Copy, Debug, PartialEq, Eq)]
+pub struct Summary {
+    /// Transactions that ended in SUCCESS.
+    pub success: u64,
+    /// Transactions that ended in FAILURE.
+    pub failure: u64,
+    /// Transactions that ended in DEEMED.
+    pub deemed: u64,
+    /// Reconciliation items.
+    pub items: u64,
+    /// The money in flight, in paise.
+    pub flight: u128,
+    /// Entries.
+    pub entries: u64,
+    /// Sent messages.
+    pub messages: u64,
 }
 
 /// Why a history isn't legal, or a journal isn't right.

@@ -23,10 +23,10 @@ use Rattle.upi_laws.specs.Places.{asked, opening, minutes, due_answer, accounts_
 use Rattle.upi_laws.specs.Postings.{arrives, reversal_due, arrival}
 use Rattle.upi_laws.specs.Legal.{Legal}
 use Rattle.upi_laws.specs.Sound.{CollectsApproved}
-use Rattle.upi_laws.proofs.Stays.{or_cases, guarded, none_some, some_same, first_found, opening_stays, decision_stays}
+use Rattle.upi_base.proofs.Options.{or_cases, guarded, none_some, some_same, none_if}
+use Rattle.upi_laws.proofs.Stays.{first_found, opening_stays, decision_stays}
 use Rattle.upi_laws.proofs.Facts.{found_stays, answered_arrived}
 use Rattle.upi_laws.proofs.Openings.{opening_is_named}
-use Rattle.upi_laws.proofs.Steps.{none_if}
 use Rattle.upi_laws.proofs.Once.{arrives_is}
 use Rattle.upi_laws.proofs.Beginnings.{legal_before}
 use Rattle.upi_laws.proofs.Deliveries.{orders_are_placed}

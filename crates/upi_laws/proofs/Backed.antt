@@ -42,7 +42,8 @@ use Rattle.upi_laws.specs.Replies.{order_answer}
 use Rattle.upi_laws.specs.Sending.{order_at, order, confirm, outcome_messages, anew, sent_on_opening, sent_on_decision, sent_on_debit, sent_on_credit, sent_on_reversal, again, sent_again, sent_by_txn, sent_on_late, sent_on_event, bank_answer, model_word, model_answer_by, receiver_answer, answered_message, receiver_answers, sent_on_said, sent_on, sent_by}
 use Rattle.upi_laws.specs.Legal.{Legal}
 use Rattle.upi_laws.specs.Backed.{IsQuestion, word_of, word_at, OrderPlaced, BackedBy, Backed, AllBacked, MessagesBacked, MessageBacked, BackedWhenSent}
-use Rattle.upi_laws.proofs.Stays.{some_same, some_is, opening_stays_one, decision_stays, debit_stays, answer_stays}
+use Rattle.upi_base.proofs.Options.{some_same, some_is}
+use Rattle.upi_laws.proofs.Stays.{opening_stays_one, decision_stays, debit_stays, answer_stays}
 use Rattle.upi_laws.proofs.Facts.{cause_stays, cause_late, outcome_stays}
 use Rattle.upi_laws.proofs.Openings.{opening_is_named, opens_found}
 

@@ -21,7 +21,7 @@ use Rattle.upi_laws.specs.Places.{opened, opening}
 use Rattle.upi_laws.specs.Postings.{Answers, is_posted, is_account, posted_at, share, total, balance_by, balance, post_credit, post_leg, post, answer}
 use Rattle.upi_laws.specs.Settlement.{accounts}
 use Rattle.upi_laws.specs.Laws.{IsAllowed, DebitsAreCovered, BalancesAreCapped, TotalsAreBounded}
-use Rattle.upi_laws.proofs.Stays.{some_same}
+use Rattle.upi_base.proofs.Options.{some_same}
 use Rattle.upi_laws.proofs.Openings.{all_map, openings_are_allowed, openings_have_room}
 use Rattle.upi_laws.proofs.Posted.{credit_forth, posts_one, OnePosts, total_grows, total_here}
 use Rattle.upi_laws.proofs.Conserved.{IsNamedOnce, accounts_named_once, all_covered}

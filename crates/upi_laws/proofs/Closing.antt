@@ -34,7 +34,8 @@ use Rattle.upi_laws.specs.History.{said_by, delivered, read_message, message_at,
 use Rattle.upi_laws.specs.Places.{if_of, opens, opened, opening, due_answer, answers_in_time, yes_or_no, decides_on, decides, decision, end_told, tells, ends_on, ends, due_debit, debit, due_credit, credit, cause_by, reversal}
 use Rattle.upi_laws.specs.Outcomes.{outcome_by, outcome_of}
 use Rattle.upi_laws.specs.Laws.{RunningIsUncut, ClosedHaveOutcomes}
-use Rattle.upi_laws.proofs.Stays.{or_none, or_cases, guarded, is_some_has, opening_more}
+use Rattle.upi_base.proofs.Options.{is_some_has, or_cases, or_some, or_none, guarded}
+use Rattle.upi_laws.proofs.Stays.{opening_more}
 use Rattle.upi_laws.proofs.Facts.{outcome_stays}
 use Rattle.upi_laws.proofs.Openings.{or_false}
 use Rattle.upi_laws.proofs.Steps.{closed_is_untouched}
@@ -160,10 +161,6 @@ cut due = option_and_then (λ (k : ℕ). Some ended.Close) due
 abbrev returned : ℕ → Option LegEnd → Option LegEnd → Option ℕ
 returned now d c = option_and_then (λ (why : Code). Some now) (cause_by d c)
 
-or_some : (r : Option ℕ) (now : ℕ) → is_some (option_or r (Some now)) ≡ true
-or_some None now = refl
-or_some (Some k) now = refl
-
 closes : (o : Opening) (a : Option Decision) (d c : Option LegEnd) (r : Option ℕ) (now : ℕ)
     → is_some (outcome_by (Some o) (option_or a (Some decided.Close)) (option_or d (cut (due_debit a))) (option_or c (cut (due_credit d))) (is_some (option_or r (returned now d c)))) ≡ true
 closes o None d c r now = refl
@@ -173,12 +170,12 @@ closes o (Some decided.Close) d c r now = refl
 closes o (Some (decided.Yes at)) None c r now = refl
 closes o (Some (decided.Yes at)) (Some (ended.Declined k)) c r now = refl
 closes o (Some (decided.Yes at)) (Some ended.Close) c r now = refl
-closes o (Some (decided.Yes at)) (Some ended.Late) c r now = rw (or_some r now) refl
+closes o (Some (decided.Yes at)) (Some ended.Late) c r now = rw (or_some r (Some now) refl) refl
 closes o (Some (decided.Yes at)) (Some (ended.Posted k)) None r now = refl
 closes o (Some (decided.Yes at)) (Some (ended.Posted k)) (Some (ended.Posted _)) r now = refl
 closes o (Some (decided.Yes at)) (Some (ended.Posted k)) (Some ended.Late) r now = refl
 closes o (Some (decided.Yes at)) (Some (ended.Posted k)) (Some ended.Close) r now = refl
-closes o (Some (decided.Yes at)) (Some (ended.Posted k)) (Some (ended.Declined x)) r now = rw (or_some r now) refl
+closes o (Some (decided.Yes at)) (Some (ended.Posted k)) (Some (ended.Declined x)) r now = rw (or_some r (Some now) refl) refl
 
 -- the opening is that of before
 close_opens : (S : List SetupLine) (openings : List Opening) (closed : Bool) (now : ℕ) → opens S openings closed event.Close now ≡ None

@@ -23,13 +23,14 @@ use Rattle.upi_laws.specs.Settlement.{accounts}
 use Rattle.upi_laws.specs.Legal.{Legal}
 use Rattle.upi_laws.specs.Laws.{IsAllowed}
 use Rattle.upi_laws.specs.Sound.{LegalKeepsMoney}
-use Rattle.upi_laws.proofs.Stays.{some_same, is_some_has}
+use Rattle.upi_base.proofs.Options.{some_same, is_some_has}
+use Rattle.upi_base.proofs.Lists.{sum_add, sum_all}
 use Rattle.upi_laws.proofs.Openings.{openings_are_allowed}
 use Rattle.upi_laws.proofs.Legs.{posted_is, returned_taken, given_taken, given_unreversed}
 use Rattle.upi_laws.proofs.Setups.{accounts_found, named_found}
 use Rattle.upi_base.proofs.Setups.{same_account_is}
 use Rattle.upi_laws.proofs.Posted.{debit_forth, posts_one, total_grows, total_here}
-use Rattle.upi_laws.proofs.Sums.{sum_add, sum_all, counts, moves_at, totals}
+use Rattle.upi_laws.proofs.Sums.{counts, moves_at, totals}
 
 -- ---- one name, one account
 

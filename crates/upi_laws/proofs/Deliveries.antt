@@ -36,7 +36,8 @@ use Rattle.upi_laws.specs.Postings.{Answers, reversal_due, arrives_on, arrives, 
 use Rattle.upi_laws.specs.Replies.{order_answer}
 use Rattle.upi_laws.specs.Legal.{Legal}
 use Rattle.upi_laws.specs.Backed.{OrderPlaced, BackedBy, OrdersArePlaced, OrdersAreAnswered, AnswersStand, has_ended, AnswersEnd, AnswerPlaced, EndAnswered, AllLegsAreAnswered}
-use Rattle.upi_laws.proofs.Stays.{or_cases, guarded, if_some, some_same, some_is, is_some_has, decision_stays, debit_stays, answer_stays}
+use Rattle.upi_base.proofs.Options.{some_same, some_is, is_some_has, none_is, or_cases, or_some, if_some, guarded}
+use Rattle.upi_laws.proofs.Stays.{decision_stays, debit_stays, answer_stays}
 use Rattle.upi_laws.proofs.Facts.{decided_opened, due_debit_is}
 use Rattle.upi_laws.proofs.Closing.{running_is_uncut}
 use Rattle.upi_laws.proofs.Once.{same_leg_is, same_leg_self, ordered, caused_opened}
@@ -124,10 +125,6 @@ posted_some S os answers o leg.Reversal a e = refl
 post_some : (S : List SetupLine) (h : List Entry) (t : List ℕ) (l : Leg) (o : Opening) → opening S t h ≡ Some o → is_some (post_leg S (opened S h) (answer S h) o.terms l) ≡ true → is_some (post S (opened S h) (answer S h) t l) ≡ true
 post_some S h t l o begun is = ap (λ (z : Option Opening). is_some (option_and_then (λ (o : Opening). post_leg S (opened S h) (answer S h) o.terms l) z)) begun ∙ is
 
-or_some : {X : Type 0} (o p : Option X) → is_some p ≡ true → is_some (option_or o p) ≡ true
-or_some None p e = e
-or_some (Some x) p e = refl
-
 pub orders_are_answered : OrdersAreAnswered
 orders_are_answered S h c t l legal e =
     let k = (ordered S h c t l legal e).order in
@@ -147,10 +144,6 @@ ordered_placed : (S : List SetupLine) (h : List Entry) (t : List ℕ) (l : Leg) 
 ordered_placed S h t leg.Debit p = p
 ordered_placed S h t leg.Credit p = p
 ordered_placed S h t leg.Reversal p = inl p
-
-none_is : {X : Type 0} (o : Option X) → is_none o ≡ true → o ≡ None
-none_is None e = refl
-none_is (Some x) e = absurd cc
 
 -- a reversal that is due when the switch closes
 closing_placed : (S : List SetupLine) (e : Entry) (h : List Entry) (t : List ℕ) → is_closed h ≡ false → event_of h e.call ≡ event.Close → reversal_due S t h ≡ true → AnswerPlaced S (e ∷ h) t leg.Reversal

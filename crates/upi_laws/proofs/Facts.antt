@@ -24,7 +24,8 @@ use Rattle.upi_laws.specs.Outcomes.{late_outcome, credit_outcome, debit_outcome,
 use Rattle.upi_laws.specs.Postings.{arrives, reversal_due, arrival, answer, post, post_leg}
 use Rattle.upi_laws.specs.Dues.{acknowledges, acknowledged}
 use Rattle.upi_laws.specs.Laws.{Stays, AllPlacesStay, OutcomeStays, AllPlacesFollow}
-use Rattle.upi_laws.proofs.Stays.{or_cases, guarded, if_some, first_found, FoundAt, opening_stays, opening_stays_one, decision_stays, debit_stays, credit_stays, reversal_stays, acknowledged_stays, arrival_stays, answer_stays}
+use Rattle.upi_base.proofs.Options.{or_cases, guarded, if_some}
+use Rattle.upi_laws.proofs.Stays.{first_found, FoundAt, opening_stays, opening_stays_one, decision_stays, debit_stays, credit_stays, reversal_stays, acknowledged_stays, arrival_stays, answer_stays}
 
 -- what stood before a found place still stands
 pub found_stays : {X : Type 0} (fits : List Entry → Event → ℕ → Option X) (h : List Entry) (x : X) (f : FoundAt fits h x) (P : List Entry → Type 0)

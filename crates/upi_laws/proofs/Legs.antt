@@ -29,10 +29,10 @@ use Rattle.upi_laws.specs.Outcomes.{late_code, late_outcome, credit_outcome, deb
 use Rattle.upi_laws.specs.Postings.{is_posted, balance_by, post_debit, post_reversal, post_leg, post, arrives, reversal_due, answer}
 use Rattle.upi_laws.specs.Legal.{Legal}
 use Rattle.upi_laws.specs.Backed.{AnswerPlaced}
-use Rattle.upi_laws.proofs.Stays.{or_cases, if_some, is_some_has, some_same, answer_stays}
+use Rattle.upi_base.proofs.Options.{or_cases, if_some, is_some_has, some_same, none_if}
+use Rattle.upi_laws.proofs.Stays.{answer_stays}
 use Rattle.upi_laws.proofs.Facts.{debit_approved, credit_debited, cause_from}
 use Rattle.upi_laws.proofs.Openings.{opening_is_named}
-use Rattle.upi_laws.proofs.Steps.{none_if}
 use Rattle.upi_laws.proofs.Once.{arrives_is, Arrives}
 use Rattle.upi_laws.proofs.Deliveries.{legs_are_answered}
 

@@ -42,24 +42,20 @@ use Rattle.upi_laws.specs.Legal.{Legal, IsRight}
 use Rattle.upi_laws.specs.Backed.{BackedBy, IsOrder}
 use Rattle.upi_laws.specs.Laws.{IsNoFirstArrival, OnlyArrivalsMove, ArrivedIsAnswered}
 use Rattle.upi_laws.specs.Sound.{LatestPosts, LegsPosted, LegalPostsOnce}
-use Rattle.upi_laws.proofs.Stays.{or_none, or_cases, some_is, none_some, is_some_has, answer_stays}
+use Rattle.upi_base.proofs.Options.{none_some, some_is, is_some_has, none_is, none_if, or_cases, or_first, or_none, if_false}
+use Rattle.upi_laws.proofs.Stays.{answer_stays}
 use Rattle.upi_laws.proofs.Facts.{decided_opened, due_debit_is, debit_approved, credit_debited, cause_from, answered_opened, arrives_arrived}
 use Rattle.upi_laws.proofs.Openings.{opens_found}
-use Rattle.upi_laws.proofs.Steps.{none_if, if_false}
 use Rattle.upi_laws.proofs.Beginnings.{legal_before}
 use Rattle.upi_laws.proofs.Backed.{message_backed}
 
 -- ---- balances
 
-or_some : {X : Type 0} (o p : Option X) → is_some o ≡ true → option_or o p ≡ o
-or_some None p h = absurd cc
-or_some (Some x) p h = refl
-
 same_answers : (S : List SetupLine) (e : Entry) (before : List Entry) → IsNoFirstArrival S e before → answer S (e ∷ before) ≡ answer S before
 same_answers S e before none = λ i t l. go t l (arrives t l (is_closed before) (reversal_due S t before) (event_of before e.call)) refl i
   where
     go : (t : List ℕ) (l : Leg) (b : Bool) → arrives t l (is_closed before) (reversal_due S t before) (event_of before e.call) ≡ b → answer S (e ∷ before) t l ≡ answer S before t l
-    go t l true is = or_some (answer S before t l) _ (none t l is)
+    go t l true is = or_first (answer S before t l) _ (none t l is)
     go t l false is = ap (option_or (answer S before t l)) (if_false (arrives t l (is_closed before) (reversal_due S t before) (event_of before e.call)) (post S (opened S before) (answer S before) t l) is) ∙ or_none (answer S before t l)
 
 -- a payment that has no answer moves nothing
@@ -226,10 +222,6 @@ due_cases S t h is = elim (either_true (is_some (due_debit (decision S t h)) && 
       let c = is_some_has (cause S t h) p.0 in
       inr (c.0, c.1, none_is (reversal S t h) p.1)
 ]
-  where
-    none_is : {X : Type 0} (o : Option X) → is_none o ≡ true → o ≡ None
-    none_is None e = refl
-    none_is (Some x) e = absurd cc
 
 due_opened : (S : List SetupLine) (t : List ℕ) (h : List Entry) → reversal_due S t h ≡ true → (o : Opening) × (opening S t h ≡ Some o)
 due_opened S t h is = elim (due_cases S t h is) [

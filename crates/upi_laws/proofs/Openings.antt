@@ -25,7 +25,9 @@ use Rattle.upi_laws.specs.declared.places.Opening.{Opening}
 use Rattle.upi_laws.specs.History.{is_closed, event_of}
 use Rattle.upi_laws.specs.Places.{asking, agrees, one_account, has_id, in_shard, refusal, opens_said, opens_on, opens, opened, if_of, opening}
 use Rattle.upi_laws.specs.Laws.{OpeningsAreFound, OpeningIsNamed, OpeningIsFirst, IsAllowed, OpeningsAreAllowed, ShardsHaveRoom, OpeningsHaveRoom}
-use Rattle.upi_laws.proofs.Stays.{or_cases, guarded, opening_more, opening_stays_one}
+use Rattle.upi_base.proofs.Options.{or_cases, guarded}
+use Rattle.upi_base.proofs.Setups.{not_false}
+use Rattle.upi_laws.proofs.Stays.{opening_more, opening_stays_one}
 
 -- ---- what an event opens
 
@@ -92,10 +94,6 @@ pub record Passes (S : List SetupLine) (openings : List Opening) (psp : List ℕ
   pub least : 1 ≤ r.amount
   pub most : r.amount ≤ 1_000_000_000
   pub room : count_by (in_shard (txn_shard r.txn)) openings < 4096
-
-not_false : (b : Bool) → not b ≡ false → b ≡ true
-not_false true e = refl
-not_false false e = absurd cc
 
 pub passes : (S : List SetupLine) (openings : List Opening) (psp : List ℕ) (r : PayReq) → is_none (refusal S openings psp r) ≡ true → Passes S openings psp r
 passes S openings psp r e =

@@ -22,12 +22,12 @@ use Rattle.upi_laws.specs.declared.places.Opening.{Opening}
 use Rattle.upi_laws.specs.History.{is_closed, event_of}
 use Rattle.upi_laws.specs.Places.{same_leg, has_id, opens, opened, opening}
 use Rattle.upi_laws.specs.Postings.{is_posted, is_account, posted_at, share, total, post_leg, post, arrives, reversal_due, answer}
-use Rattle.upi_laws.proofs.Stays.{or_cases, or_none, if_some, some_same}
+use Rattle.upi_base.proofs.Options.{or_cases, or_none, if_some, some_same, if_false}
+use Rattle.upi_base.proofs.Lists.{sum_add, sum_same, sum_le}
 use Rattle.upi_laws.proofs.Openings.{opens_found}
-use Rattle.upi_laws.proofs.Steps.{if_false}
 use Rattle.upi_laws.proofs.Once.{same_leg_self, arrives_is, total_joined, unopened_unanswered}
 use Rattle.upi_laws.proofs.Legs.{posted_is}
-use Rattle.upi_laws.proofs.Sums.{sum_add, sum_same, sum_le, of_opening, sum_at}
+use Rattle.upi_laws.proofs.Sums.{of_opening, sum_at}
 
 -- ---- what an entry adds to what the legs moved
 

@@ -24,6 +24,7 @@ use Rattle.upi_laws.specs.Settlement.{bank_of, bank_at, is_settled, is_deemed, i
 use Rattle.upi_laws.specs.Legal.{Legal}
 use Rattle.upi_laws.specs.Laws.{IsAllowed}
 use Rattle.upi_laws.specs.Sound.{MovedAs, items_on, AllSettled, nets, opened_with, held, items_at, BankBalances, BankNets, JustClosed, LegalClosesSound, PrefixSound, LegalIsSound}
+use Rattle.upi_base.proofs.Lists.{sum_add, sum_same, sum_none, sum_all, sum_flat_map}
 use Rattle.upi_laws.proofs.Facts.{outcome_stays}
 use Rattle.upi_laws.proofs.Openings.{openings_are_found, openings_are_allowed, opening_is_named}
 use Rattle.upi_laws.proofs.Closing.{closed_have_outcomes}
@@ -33,7 +34,7 @@ use Rattle.upi_laws.proofs.Telling.{legal_tells}
 use Rattle.upi_laws.proofs.Approved.{collects_approved}
 use Rattle.upi_laws.proofs.Legs.{Moves, MovesAt, outcome_moves}
 use Rattle.upi_laws.proofs.Setups.{tally, address_account}
-use Rattle.upi_laws.proofs.Sums.{sum_add, sum_same, sum_none, sum_all, sum_flat_map, amount_each, of_opening, sum_at, counts, moves_at, known_at}
+use Rattle.upi_laws.proofs.Sums.{amount_each, of_opening, sum_at, counts, moves_at, known_at}
 use Rattle.upi_laws.proofs.Conserved.{moved_at, counted_keep, legal_keeps_money}
 use Rattle.upi_laws.proofs.Ints.{same_difference, added_difference, difference_sum, no_difference}
 

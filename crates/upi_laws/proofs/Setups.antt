@@ -17,7 +17,7 @@ use Rattle.upi_base.specs.declared.setup.SetupLine.TheVariants as line
 use Rattle.upi_base.proofs.Setups.{kept_by_setup, same_account_is, account_name, accepted_are_sound}
 use Rattle.upi_base.specs.Setup.{accounts as setup_accounts, IsNamed, same_account, is_bank_line, names_bank, has_bank, account_named, listing_at, account_at, bank_fault, setup_fault, is_setup}
 use Rattle.upi_laws.specs.Settlement.{accounts, banks}
-use Rattle.upi_laws.proofs.Stays.{some_same}
+use Rattle.upi_base.proofs.Options.{some_same}
 
 abbrev pub tally : Bool → ℕ
 tally b = cond b 1 0

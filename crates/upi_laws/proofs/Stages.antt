@@ -8,7 +8,7 @@ use Rattle.upi_laws.specs.declared.places.LegEnd.{LegEnd}
 use Rattle.upi_laws.specs.declared.places.LegEnd.TheVariants as ended
 use Rattle.upi_laws.specs.Places.{decision, debit, credit, cause_by, reversal}
 use Rattle.upi_laws.specs.Tellings.{IsStage, PlacesAreStages}
-use Rattle.upi_laws.proofs.Stays.{is_some_has}
+use Rattle.upi_base.proofs.Options.{is_some_has}
 use Rattle.upi_laws.proofs.Facts.{debit_approved, credit_debited, reversal_caused}
 
 abbrev IsYes : Option Decision → Type 0

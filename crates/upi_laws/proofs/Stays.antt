@@ -1,12 +1,12 @@
 -- What was found in a prefix is found in the history.
-use Rattle.std.proofs.Common.{◌≡◌, ℕ, Bool, true, false, cond, List, [], ◌∷◌, ◌++◌, Option, Some, None, refl, sym, ◌∙◌, ap, inl, inr, ◌⊎◌}
-use Rattle.std.specs.Prelude.{is_some}
+use Rattle.std.proofs.Common.{◌≡◌, ℕ, List, [], ◌∷◌, ◌++◌, Option, Some, None, refl, sym, ◌∙◌, ap, inl, inr, append_assoc}
 use Rattle.std.specs.Option.{option_or, option_and_then}
+use Rattle.std.proofs.lemmas.List.{append-nil}
 use Rattle.upi_base.specs.declared.entry.Entry.{Entry}
 use Rattle.upi_base.specs.declared.code.Leg.{Leg}
 use Rattle.upi_base.specs.declared.code.Leg.TheVariants as leg
 use Rattle.upi_base.specs.declared.setup.SetupLine.{SetupLine}
-use Rattle.upi_base.specs.Lists.{when, pick, joined}
+use Rattle.upi_base.specs.Lists.{when, joined}
 use Rattle.upi_laws.specs.declared.event.Event.{Event}
 use Rattle.upi_laws.specs.History.{first, is_closed, event_of}
 use Rattle.upi_laws.specs.Places.{opens, opened, if_of, opening, decides, decision, ends, due_debit, debit, due_credit, credit, cause, reverses, reversal}
@@ -14,53 +14,8 @@ use Rattle.upi_laws.specs.Outcomes.{outcome_of}
 use Rattle.upi_laws.specs.Postings.{arrives, reversal_due, arrival, answer}
 use Rattle.upi_laws.specs.Dues.{acknowledges, acknowledged}
 use Rattle.upi_laws.specs.Laws.{Stays, OpeningsGrow}
-
--- ---- options
-
-pub or_stays : {X : Type 0} (o p : Option X) (x : X) → o ≡ Some x → option_or o p ≡ Some x
-or_stays None p x h = absurd cc
-or_stays (Some y) p x h = h
-
-pub or_cases : {X : Type 0} (o p : Option X) (x : X) → option_or o p ≡ Some x → (o ≡ Some x) ⊎ ((o ≡ None) × (p ≡ Some x))
-or_cases None p x h = inr (refl, h)
-or_cases (Some y) p x h = inl h
-
-pub or_none : {X : Type 0} (o : Option X) → option_or o None ≡ o
-or_none None = refl
-or_none (Some x) = refl
-
-pub or_nothing : {X : Type 0} (o p : Option X) → p ≡ None → option_or o p ≡ o
-or_nothing None p e = e
-or_nothing (Some x) p e = refl
-
-pub or_both_none : {X : Type 0} (o p : Option X) → o ≡ None → p ≡ None → option_or o p ≡ None
-or_both_none None p e f = f
-or_both_none (Some x) p e f = absurd cc
-
-pub or_assoc : {X : Type 0} (o p q : Option X) → option_or o (option_or p q) ≡ option_or (option_or o p) q
-or_assoc None p q = refl
-or_assoc (Some x) p q = refl
-
-pub guarded : {X : Type 0} (b : Bool) (o : Option X) (x : X) → cond b None o ≡ Some x → (b ≡ false) × (o ≡ Some x)
-guarded true o x h = absurd cc
-guarded false o x h = (refl, h)
-
-pub if_some : {X : Type 0} (b : Bool) (o : Option X) (x : X) → cond b o None ≡ Some x → (b ≡ true) × (o ≡ Some x)
-if_some true o x h = (refl, h)
-if_some false o x h = absurd cc
-
-pub some_same : {X : Type 0} (x y : X) → Some x ≡ Some y → x ≡ y
-some_same x y e = cc
-
-pub none_some : {X : Type 0} (o : Option X) (x : X) → o ≡ None → o ≡ Some x → ⊥
-none_some o x e f = cc
-
-pub some_is : {X : Type 0} (o : Option X) (x : X) → o ≡ Some x → is_some o ≡ true
-some_is o x e = rw e refl
-
-pub is_some_has : {X : Type 0} (o : Option X) → is_some o ≡ true → (x : X) × (o ≡ Some x)
-is_some_has None h = absurd cc
-is_some_has (Some x) h = (x, refl)
+use Rattle.upi_base.proofs.Options.{or_cases, or_stays}
+use Rattle.upi_base.proofs.Lists.{pick_joined}
 
 -- ---- first places
 
@@ -86,14 +41,6 @@ first_found fits (e ∷ before) x h = elim (or_cases (first fits before) (fits b
 
 -- ---- openings
 
-pub pick_append : {A X : Type 0} (f : A → Option X) (xs ys : List A) → pick f (xs ++ ys) ≡ option_or (pick f xs) (pick f ys)
-pick_append f [] ys = refl
-pick_append f (x ∷ xs) ys = ap (option_or (f x)) (pick_append f xs ys) ∙ or_assoc (f x) (pick f xs) (pick f ys)
-
-pub pick_joined : {A X : Type 0} (f : A → Option X) (xs : List A) (o : Option A) → pick f (joined xs o) ≡ option_or (pick f xs) (option_and_then f o)
-pick_joined f xs None = sym (or_none (pick f xs))
-pick_joined f xs (Some y) = pick_append f xs (y ∷ []) ∙ ap (option_or (pick f xs)) (or_none (f y))
-
 -- what an entry adds to the opening of a transaction
 pub opening_more : (S : List SetupLine) (t : List ℕ) (e : Entry) (before : List Entry)
     → opening S t (e ∷ before) ≡ option_or (opening S t before) (option_and_then (if_of t) (opens S (opened S before) (is_closed before) (event_of before e.call) e.at))
@@ -106,20 +53,12 @@ pub opening_stays : (S : List SetupLine) (t : List ℕ) (later h : List Entry) �
 opening_stays S t [] h o is = is
 opening_stays S t (e ∷ later) h o is = opening_stays_one S t e (later ++ h) o (opening_stays S t later h o is)
 
-append_nil : {X : Type 0} (xs : List X) → xs ++ [] ≡ xs
-append_nil [] = refl
-append_nil (x ∷ xs) = ap (λ (l : List _). x ∷ l) (append_nil xs)
-
-append_assoc : {X : Type 0} (xs ys zs : List X) → (xs ++ ys) ++ zs ≡ xs ++ (ys ++ zs)
-append_assoc [] ys zs = refl
-append_assoc (x ∷ xs) ys zs = ap (λ (l : List _). x ∷ l) (append_assoc xs ys zs)
-
 joined_more : {X : Type 0} (base more whole : List X) (o : Option X) → whole ≡ base ++ more → (m : List X) × (joined whole o ≡ base ++ m)
 joined_more base more whole None e = (more, e)
 joined_more base more whole (Some x) e = (more ++ x ∷ [], ap (λ (l : List _). l ++ x ∷ []) e ∙ append_assoc base more (x ∷ []))
 
 pub openings_grow : OpeningsGrow
-openings_grow S [] h = ([], sym (append_nil (opened S h)))
+openings_grow S [] h = ([], sym (append-nil (opened S h)))
 openings_grow S (e ∷ later) h =
     let r = openings_grow S later h in
     joined_more (opened S h) r.0 (opened S (later ++ h)) (opens S (opened S (later ++ h)) (is_closed (later ++ h)) (event_of (later ++ h) e.call) e.at) r.1

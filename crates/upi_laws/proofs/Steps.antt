@@ -1,5 +1,5 @@
 -- What one more entry adds to a transaction.
-use Rattle.std.proofs.Common.{◌≡◌, ℕ, ◌+◌, ◌≤◌, Bool, true, false, cond, List, ◌∷◌, Option, Some, None, refl, sym, ◌∙◌, ap, inl, inr, arith}
+use Rattle.std.proofs.Common.{◌≡◌, ℕ, ◌+◌, ◌≤◌, Bool, true, false, List, ◌∷◌, Option, Some, None, refl, sym, ◌∙◌, ap, inl, inr, arith}
 use Rattle.std.specs.Prelude.{is_some, not, ◌&&◌}
 use Rattle.std.specs.Option.{option_and_then}
 use Rattle.std.specs.Str.{bytes_eq}
@@ -23,31 +23,10 @@ use Rattle.upi_laws.specs.Places.{opens, opened, if_of, opening, decides_on, dec
 use Rattle.upi_laws.specs.Outcomes.{outcome_by}
 use Rattle.upi_laws.specs.Postings.{answer, arrives, reversal_due, post}
 use Rattle.upi_laws.specs.Laws.{IsOneMore, OneComes, OneEntryAdds, new, AtMostOneComes, is_about, IsUntouched, OthersAreUntouched, ClosedIsUntouched, ClosedAnswersStand}
-use Rattle.upi_laws.proofs.Stays.{or_nothing, or_both_none, or_cases, guarded, none_some, opening_more}
+use Rattle.upi_base.proofs.Options.{none_some, none_if, or_cases, or_nothing, or_both_none, if_false, guarded, guard_none, guard_shut, none_then, then_none}
+use Rattle.upi_laws.proofs.Stays.{opening_more}
 use Rattle.upi_laws.proofs.Facts.{decided_opened, debit_approved, due_credit_is, credit_debited, reversal_caused}
 use Rattle.upi_laws.proofs.Openings.{opens_is, opening_is_named}
-
--- ---- nothing comes of nothing
-
-pub none_if : {X : Type 0} (o : Option X) → ((x : X) → o ≡ Some x → ⊥) → o ≡ None
-none_if None h = refl
-none_if (Some x) h = absurd (h x refl)
-
-pub guard_none : {X : Type 0} (b : Bool) (o : Option X) → o ≡ None → cond b None o ≡ None
-guard_none true o e = refl
-guard_none false o e = e
-
-pub guard_shut : {X : Type 0} (b : Bool) (o : Option X) → b ≡ true → cond b None o ≡ None
-guard_shut true o e = refl
-guard_shut false o e = absurd cc
-
-pub then_none : {X Y : Type 0} (f : X → Option Y) (o : Option X) → ((x : X) → o ≡ Some x → f x ≡ None) → option_and_then f o ≡ None
-then_none f None e = refl
-then_none f (Some x) e = e x refl
-
-pub none_then : {X Y : Type 0} (f : X → Option Y) (o : Option X) → o ≡ None → option_and_then f o ≡ None
-none_then f None e = refl
-none_then f (Some x) e = absurd cc
 
 -- ---- one entry
 
@@ -226,10 +205,6 @@ closed_is_untouched S t e h shut =
 not_shut : (b c : Bool) → b ≡ true → (not b && c) ≡ false
 not_shut true c e = refl
 not_shut false c e = absurd cc
-
-pub if_false : {X : Type 0} (b : Bool) (o : Option X) → b ≡ false → cond b o None ≡ None
-if_false true o e = absurd cc
-if_false false o e = refl
 
 pub closed_answers_stand : ClosedAnswersStand
 closed_answers_stand S e h shut = (

@@ -1,10 +1,9 @@
 -- Sums over accounts, over openings and over banks.
-use Rattle.std.proofs.Common.{◌≡◌, ℕ, ◌+◌, ◌*◌, ◌≤◌, Bool, true, false, cond, List, [], ◌∷◌, ◌++◌, Option, Some, None, refl, sym, ◌∙◌, ap, arith}
+use Rattle.std.proofs.Common.{◌≡◌, ℕ, ◌+◌, ◌*◌, Bool, true, false, cond, List, [], ◌∷◌, ◌++◌, Option, Some, None, refl, sym, ◌∙◌, ap, arith}
 use Rattle.std.specs.Prelude.{◌&&◌}
 use Rattle.std.specs.Option.{option_or, option_and_then}
-use Rattle.std.specs.List.{AllByRecursion, sum_by, count_by, flat_map}
+use Rattle.std.specs.List.{AllByRecursion, sum_by, count_by}
 use Rattle.std.proofs.lemmas.List.Sums.{sum_by-cons, sum_by-append}
-use Rattle.std.proofs.lemmas.List.Concat.{flat_map-cons}
 use Rattle.std.proofs.lemmas.Slice.Eq.{bytes_eq-Decides}
 use Rattle.upi_base.specs.declared.entry.Entry.{Entry}
 use Rattle.upi_base.specs.declared.message.PayReq.{PayReq}
@@ -21,35 +20,13 @@ use Rattle.upi_laws.specs.Places.{has_id, if_of, opens, opened, opening}
 use Rattle.upi_laws.specs.Postings.{Answers, is_posted, is_account, posted_at, share, total}
 use Rattle.upi_laws.specs.Settlement.{accounts}
 use Rattle.upi_laws.specs.Laws.{IsAllowed}
-use Rattle.upi_laws.proofs.Stays.{or_none, opening_more, is_some_has}
+use Rattle.upi_base.proofs.Options.{or_none, is_some_has}
+use Rattle.upi_base.proofs.Lists.{sum_add, sum_same, sum_none, sum_all}
+use Rattle.upi_laws.proofs.Stays.{opening_more}
 use Rattle.upi_laws.proofs.Openings.{opens_found}
 use Rattle.upi_laws.proofs.Setups.{AddressAccount, address_account}
 
 -- ---- sums
-
-pub sum_add : {X : Type 0} (f g : X → ℕ) (xs : List X) → sum_by (λ (x : X). f x + g x) xs ≡ sum_by f xs + sum_by g xs
-sum_add f g [] = refl
-sum_add f g (x ∷ xs) = omega (arith, sum_by-cons f x xs, sum_by-cons g x xs, sum_by-cons (λ y. f y + g y) x xs, sum_add f g xs)
-
-pub sum_same : {X : Type 0} (f g : X → ℕ) → ((x : X) → f x ≡ g x) → (xs : List X) → sum_by f xs ≡ sum_by g xs
-sum_same f g e xs = ap (λ (k : _ → ℕ). sum_by k xs) (λ i x. e x i)
-
-pub sum_none : {X : Type 0} (xs : List X) → sum_by (λ (x : X). 0) xs ≡ 0
-sum_none [] = refl
-sum_none (x ∷ xs) = omega (arith, sum_by-cons (λ y. 0) x xs, sum_none xs)
-
-pub sum_all : {X : Type 0} (f g : X → ℕ) (P : X → Type 0) → ((x : X) → P x → f x ≡ g x) → (xs : List X) → AllByRecursion P xs → sum_by f xs ≡ sum_by g xs
-sum_all f g P e [] k = refl
-sum_all f g P e (x ∷ xs) k = omega (arith, e x k.0, sum_all f g P e xs k.1, sum_by-cons f x xs, sum_by-cons g x xs)
-
-pub sum_le : {X : Type 0} (f g : X → ℕ) → ((x : X) → f x ≤ g x) → (xs : List X) → sum_by f xs ≤ sum_by g xs
-sum_le f g le [] = omega arith
-sum_le f g le (x ∷ xs) = omega (arith, sum_le f g le xs, le x, sum_by-cons f x xs, sum_by-cons g x xs)
-
-pub sum_flat_map : {X Y : Type 0} (g : Y → ℕ) (f : X → List Y) (xs : List X) → sum_by g (flat_map f xs) ≡ sum_by (λ (x : X). sum_by g (f x)) xs
-sum_flat_map g f [] = refl
-sum_flat_map g f (x ∷ xs) =
-    ap (sum_by g) (flat_map-cons f x xs) ∙ (sum_by-append g (f x) (flat_map f xs) ∙ (ap (λ (n : ℕ). sum_by g (f x) + n) (sum_flat_map g f xs) ∙ sym (sum_by-cons (λ y. sum_by g (f y)) x xs)))
 
 -- what one amount adds, over those that pass
 pub amount_each : {X : Type 0} (q : X → Bool) (p : Bool) (n : ℕ) (xs : List X) → count_by q xs ≡ 1 → sum_by (λ (a : X). cond (q a && p) n 0) xs ≡ cond p n 0

@@ -2,7 +2,7 @@
 use Rattle.std.proofs.Common.{◌≡◌, ℕ, zero, suc, ◌+◌, ◌<◌, ◌≤◌, Bool, true, false, cond, List, [], ◌∷◌, ◌++◌, Option, Some, None, refl, sym, ◌∙◌, ap, subst, append-nil, arith}
 use Rattle.std.specs.Prelude.{is_some, is_none, ◌&&◌, ◌||◌, nat_lt, nat_le}
 use Rattle.std.specs.List.{count_by}
-use Rattle.std.specs.Option.{option_or, option_and_then}
+use Rattle.std.specs.Option.{option_or}
 use Rattle.std.specs.Str.{bytes_eq}
 use Rattle.std.proofs.lemmas.Bool.{and_parts, or_parts, both_ways, ltb-true}
 use Rattle.std.proofs.lemmas.Option.{cond_some, option_and_then_some}
@@ -49,7 +49,8 @@ use Rattle.upi_laws.specs.Sending.{question, order_at, order, confirm, outcome_m
 use Rattle.upi_laws.specs.Legal.{Legal}
 use Rattle.upi_laws.specs.Laws.{is_about}
 use Rattle.upi_laws.specs.Tellings.{IsStage, results, outcome_new, is_late_for, confirmed_again, AllEntryTellings, ClosedAreSilent, running, AllOutcomeTellings}
-use Rattle.upi_laws.proofs.Stays.{none_some, opening_stays_one}
+use Rattle.upi_base.proofs.Options.{none_some, or_nothing, then_none}
+use Rattle.upi_laws.proofs.Stays.{opening_stays_one}
 use Rattle.upi_laws.proofs.Facts.{decided_opened, outcome_stays}
 use Rattle.upi_laws.proofs.Openings.{opening_is_named}
 use Rattle.upi_laws.proofs.Steps.{opening_alone, others_are_untouched}
@@ -179,21 +180,13 @@ unopened_untold S t e h none = told_new_same 1 (outcome_of S t h) (outcome_of S 
 asked_untold : (S : List SetupLine) (t q : List ℕ) (r : PayReq) (e : Entry) (h : List Entry) → is_closed h ≡ false → event_of h e.call ≡ event.Heard q (said.Pay r) → told_new 1 (outcome_of S t h) (outcome_of S t (e ∷ h)) ≡ 0
 asked_untold S t q r e h run is = go (opening S t h) refl
   where
-    or_none : {X : Type 0} (o p : Option X) → p ≡ None → option_or o p ≡ o
-    or_none None p e = e
-    or_none (Some x) p e = refl
-
-    then_none : {X Y : Type 0} (f : X → Option Y) (o : Option X) → ((x : X) → f x ≡ None) → option_and_then f o ≡ None
-    then_none f None e = refl
-    then_none f (Some x) e = e x
-
     opened_same : (o : Opening) → opening S t h ≡ Some o → outcome_of S t (e ∷ h) ≡ outcome_of S t h
     opened_same o begun =
         let same_o : opening S t (e ∷ h) ≡ opening S t h = opening_stays_one S t e h o begun ∙ sym begun in
-        let same_a : decision S t (e ∷ h) ≡ decision S t h = or_none (decision S t h) _ ((λ i. decides S (run i) (begun i) (is i) e.at)) in
-        let same_d : debit S t (e ∷ h) ≡ debit S t h = or_none (debit S t h) _ ((λ i. ends t leg.Debit (run i) (due_debit (decision S t h)) (is i) e.at) ∙ then_none (ends_on t leg.Debit (event.Heard q (said.Pay r)) e.at) (due_debit (decision S t h)) (λ _. refl)) in
-        let same_c : credit S t (e ∷ h) ≡ credit S t h = or_none (credit S t h) _ ((λ i. ends t leg.Credit (run i) (due_credit (debit S t h)) (is i) e.at) ∙ then_none (ends_on t leg.Credit (event.Heard q (said.Pay r)) e.at) (due_credit (debit S t h)) (λ _. refl)) in
-        let same_back : reversal S t (e ∷ h) ≡ reversal S t h = or_none (reversal S t h) _ ((λ i. reverses t (run i) (cause S t h) (is i) e.at) ∙ then_none (λ (c : Code). reverses_on t (event.Heard q (said.Pay r)) e.at) (cause S t h) (λ _. refl)) in
+        let same_a : decision S t (e ∷ h) ≡ decision S t h = or_nothing (decision S t h) _ ((λ i. decides S (run i) (begun i) (is i) e.at)) in
+        let same_d : debit S t (e ∷ h) ≡ debit S t h = or_nothing (debit S t h) _ ((λ i. ends t leg.Debit (run i) (due_debit (decision S t h)) (is i) e.at) ∙ then_none (ends_on t leg.Debit (event.Heard q (said.Pay r)) e.at) (due_debit (decision S t h)) (λ _ _. refl)) in
+        let same_c : credit S t (e ∷ h) ≡ credit S t h = or_nothing (credit S t h) _ ((λ i. ends t leg.Credit (run i) (due_credit (debit S t h)) (is i) e.at) ∙ then_none (ends_on t leg.Credit (event.Heard q (said.Pay r)) e.at) (due_credit (debit S t h)) (λ _ _. refl)) in
+        let same_back : reversal S t (e ∷ h) ≡ reversal S t h = or_nothing (reversal S t h) _ ((λ i. reverses t (run i) (cause S t h) (is i) e.at) ∙ then_none (λ (c : Code). reverses_on t (event.Heard q (said.Pay r)) e.at) (cause S t h) (λ _ _. refl)) in
         λ i. outcome_by (same_o i) (same_a i) (same_d i) (same_c i) (is_some (same_back i))
 
     go : (o : Option Opening) → opening S t h ≡ o → told_new 1 (outcome_of S t h) (outcome_of S t (e ∷ h)) ≡ 0

@@ -2,7 +2,6 @@
 use Rattle.std.proofs.Common.{◌≡◌, ℕ, Bool, true, false, cond, List, [], ◌∷◌, Option, Some, None, refl, sym, ◌∙◌, ap, subst}
 use Rattle.std.specs.Prelude.{is_some, is_none, not, ◌||◌, ◌==◌, nat_le}
 use Rattle.std.specs.List.{AllByRecursion}
-use Rattle.std.specs.Option.{option_and_then}
 use Rattle.std.specs.Str.{bytes_eq}
 use Rattle.std.proofs.lemmas.Option.{cond_some}
 use Rattle.std.proofs.lemmas.Slice.Eq.{bytes_eq-Decides}
@@ -39,7 +38,7 @@ use Rattle.upi_laws.specs.Outcomes.{late_code, outcome_by, outcome_of}
 use Rattle.upi_laws.specs.Dues.{is_due}
 use Rattle.upi_laws.specs.Replies.{ok, no, repeats, reply_pay, reply_decided, reply_auth, reply_check, reply_confirmed, reply_heard, late_answer, reply_answered, order_answer, reply_order, reply_late, reply_on, reply_closed_said, reply_closed_on, reply_closed, reply_to}
 use Rattle.upi_laws.specs.Backed.{BackedBy, AllBacked, outcome_in, status_in, IsOfCheck, AllTell, OutcomeTold, OutcomesAreCarried}
-use Rattle.upi_laws.proofs.Stays.{or_nothing, some_same, none_some}
+use Rattle.upi_base.proofs.Options.{some_same, none_some, or_nothing, guard_none, then_none}
 use Rattle.upi_laws.proofs.Facts.{outcome_stays}
 use Rattle.upi_laws.proofs.Backed.{legal_before, backed_when_sent}
 
@@ -158,27 +157,19 @@ reply_tells S h c now = either_tells S h (is_closed h) (reply_closed S h c) (rep
 
 -- ---- a check decides nothing
 
-cond_nothing : {X : Type 0} (b : Bool) (p : Option X) → p ≡ None → cond b None p ≡ None
-cond_nothing true p e = refl
-cond_nothing false p e = e
-
-then_nothing : {X Y : Type 0} (f : X → Option Y) (o : Option X) → ((x : X) → f x ≡ None) → option_and_then f o ≡ None
-then_nothing f None e = refl
-then_nothing f (Some x) e = e x
-
 check_decides_nothing : (S : List SetupLine) (h : List Entry) (e : Entry) (p t u : List ℕ) → event_of h e.call ≡ event.Heard p (said.Check t) → outcome_of S u (e ∷ h) ≡ outcome_of S u h
 check_decides_nothing S h e p t u is =
     let k = e ∷ h in
     let o : opening S u k ≡ opening S u h =
-    ap (λ (v : Event). pick (if_of u) (joined (opened S h) (opens S (opened S h) (is_closed h) v e.at))) is ∙ ap (λ (n : Option Opening). pick (if_of u) (joined (opened S h) n)) (cond_nothing (is_closed h) None refl) in
+    ap (λ (v : Event). pick (if_of u) (joined (opened S h) (opens S (opened S h) (is_closed h) v e.at))) is ∙ ap (λ (n : Option Opening). pick (if_of u) (joined (opened S h) n)) (guard_none (is_closed h) None refl) in
     let a : decision S u k ≡ decision S u h =
-    or_nothing (decision S u h) _ (ap (λ (v : Event). decides S (is_closed h) (opening S u h) v e.at) is ∙ cond_nothing (is_closed h) _ (then_nothing _ (opening S u h) (λ _. refl))) in
+    or_nothing (decision S u h) _ (ap (λ (v : Event). decides S (is_closed h) (opening S u h) v e.at) is ∙ guard_none (is_closed h) _ (then_none _ (opening S u h) (λ _ _. refl))) in
     let d : debit S u k ≡ debit S u h =
-    or_nothing (debit S u h) _ (ap (λ (v : Event). ends u leg.Debit (is_closed h) (due_debit (decision S u h)) v e.at) is ∙ cond_nothing (is_closed h) _ (then_nothing _ (due_debit (decision S u h)) (λ _. refl))) in
+    or_nothing (debit S u h) _ (ap (λ (v : Event). ends u leg.Debit (is_closed h) (due_debit (decision S u h)) v e.at) is ∙ guard_none (is_closed h) _ (then_none _ (due_debit (decision S u h)) (λ _ _. refl))) in
     let c : credit S u k ≡ credit S u h =
-    or_nothing (credit S u h) _ (ap (λ (v : Event). ends u leg.Credit (is_closed h) (due_credit (debit S u h)) v e.at) is ∙ cond_nothing (is_closed h) _ (then_nothing _ (due_credit (debit S u h)) (λ _. refl))) in
+    or_nothing (credit S u h) _ (ap (λ (v : Event). ends u leg.Credit (is_closed h) (due_credit (debit S u h)) v e.at) is ∙ guard_none (is_closed h) _ (then_none _ (due_credit (debit S u h)) (λ _ _. refl))) in
     let r : reversal S u k ≡ reversal S u h =
-    or_nothing (reversal S u h) _ (ap (λ (v : Event). reverses u (is_closed h) (cause S u h) v e.at) is ∙ cond_nothing (is_closed h) _ (then_nothing _ (cause S u h) (λ _. refl))) in
+    or_nothing (reversal S u h) _ (ap (λ (v : Event). reverses u (is_closed h) (cause S u h) v e.at) is ∙ guard_none (is_closed h) _ (then_none _ (cause S u h) (λ _ _. refl))) in
     λ i. outcome_by (o i) (a i) (d i) (c i) (is_some (r i))
 
 -- ---- from there

@@ -31,7 +31,7 @@ use Rattle.upi_laws.specs.Sending.{order_at, order, sent_by_places, sent_by_stat
 use Rattle.upi_laws.specs.Legal.{Legal}
 use Rattle.upi_laws.specs.Laws.{is_about}
 use Rattle.upi_laws.specs.Tellings.{IsStage, ReversalsAreSent, OpenAreDue}
-use Rattle.upi_laws.proofs.Stays.{none_some, is_some_has, or_nothing}
+use Rattle.upi_base.proofs.Options.{none_some, is_some_has, or_nothing}
 use Rattle.upi_laws.proofs.Facts.{debit_approved, credit_debited, cause_from}
 use Rattle.upi_laws.proofs.Openings.{opening_is_named, opening_allowed}
 use Rattle.upi_laws.proofs.Steps.{opening_alone, closed_is_untouched, others_are_untouched}

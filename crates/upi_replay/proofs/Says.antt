@@ -24,10 +24,10 @@ use Rattle.upi_laws.specs.Outcomes.{outcome_by, outcome_of}
 use Rattle.upi_laws.specs.Postings.{answer, post, post_leg}
 use Rattle.upi_laws.specs.Dues.{passed, due_by, due_confirm, due, last_sent, orders, confirms, acknowledged}
 use Rattle.upi_laws.specs.Replies.{reply_pay, reply_auth, reply_check, reply_confirmed, late_answer, reply_order, reply_late, reply_heard, reply_answered, reply_on, reply_closed, reply_closed_on, reply_closed_said, reply_to, order_answer}
-use Rattle.upi_laws.proofs.Stays.{or_both_none, none_some}
+use Rattle.upi_base.proofs.Options.{or_both_none, none_some, none_if, none_then}
 use Rattle.upi_laws.proofs.Facts.{answered_opened}
 use Rattle.upi_laws.proofs.Openings.{opening_is_named}
-use Rattle.upi_laws.proofs.Steps.{none_if, none_then, no_debit_now, no_credit}
+use Rattle.upi_laws.proofs.Steps.{no_debit_now, no_credit}
 use Rattle.upi_replay.specs.declared.rows.Row.{Row}
 use Rattle.upi_replay.specs.declared.found.Found.{Found}
 use Rattle.upi_replay.specs.Rows.{row_at, row_of, rows_of, outcome_in, order_answer_in, IsFound, Says, reply_heard_in, reply_answered_in, reply_in, reply_closed_said_in, reply_closed_on_in, reply_closed_in}

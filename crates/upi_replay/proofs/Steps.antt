@@ -4,7 +4,6 @@ use Rattle.std.specs.Prelude.{is_some, ◌||◌, if◌then◌else◌}
 use Rattle.std.specs.Option.{option_or, option_and_then, option_map}
 use Rattle.std.specs.List.{sum_by, AllByRecursion}
 use Rattle.std.proofs.lemmas.List.{map-append}
-use Rattle.std.proofs.lemmas.List.Sums.{sum_by-cons}
 use Rattle.upi_base.specs.declared.entry.Entry.{Entry}
 use Rattle.upi_base.specs.declared.code.Leg.{Leg}
 use Rattle.upi_base.specs.declared.code.Leg.TheVariants as leg
@@ -21,10 +20,11 @@ use Rattle.upi_laws.specs.Places.{opened, opens, opening, decides, decision, deb
 use Rattle.upi_laws.specs.Outcomes.{outcome_by, outcome_of}
 use Rattle.upi_laws.specs.Postings.{answer, arrives, reversal_due, post, post_leg, post_debit, post_credit, total, balance_by, flight}
 use Rattle.upi_laws.specs.Dues.{acknowledges, acknowledged}
-use Rattle.upi_laws.proofs.Stays.{or_both_none, none_some}
+use Rattle.upi_base.proofs.Options.{or_both_none, none_some, none_if, none_then}
+use Rattle.upi_base.proofs.Lists.{sum_map}
 use Rattle.upi_laws.proofs.Facts.{decided_opened, answered_opened, acknowledged_told}
 use Rattle.upi_laws.proofs.Openings.{opens_found, openings_are_found}
-use Rattle.upi_laws.proofs.Steps.{none_if, none_then, opening_alone, decision_alone, debit_alone, cause_alone, debit_uncaused, no_debit_now}
+use Rattle.upi_laws.proofs.Steps.{opening_alone, decision_alone, debit_alone, cause_alone, debit_uncaused, no_debit_now}
 use Rattle.upi_replay.specs.declared.rows.Row.{Row}
 use Rattle.upi_replay.specs.declared.found.Found.{Found}
 use Rattle.upi_replay.specs.Rows.{openings, row_share, row_total, row_balance, row_flight, rows_flight, post_row, row_after, rows_after, opened_row, new_row, row_of, rows_of, IsFound}
@@ -38,11 +38,6 @@ openings_of S h = go (opened S h)
     go (o ∷ os) = ap (λ (xs : List Opening). o ∷ xs) (go os)
 
 -- a sum over the rows is one over the openings
-pub sum_map : {X Y : Type 0} → (f : Y → ℕ) (g : X → Y) (xs : List X) → sum_by f (map g xs) ≡ sum_by (λ (x : X). f (g x)) xs
-sum_map f g [] = refl
-sum_map f g (x ∷ xs) =
-    sum_by-cons f (g x) (map g xs) ∙ (ap (λ (n : ℕ). f (g x) + n) (sum_map f g xs) ∙ sym (sum_by-cons (λ x. f (g x)) x xs))
-
 total_is : (S : List SetupLine) (h : List Entry) (ac : AccountRef) (l : Leg) → row_total S (rows_of S h) ac l ≡ total S (opened S h) (answer S h) ac l
 total_is S h ac leg.Debit = sum_map (row_share S ac leg.Debit) (row_of S h) (opened S h)
 total_is S h ac leg.Credit = sum_map (row_share S ac leg.Credit) (row_of S h) (opened S h)
