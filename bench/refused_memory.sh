@@ -1,20 +1,28 @@
 #!/bin/sh
 # Runs scripts with each allocation of memory refused in turn: bench/refused_memory.sh [SCRIPT..]
 #
-# Each run must end with status 6 and its line on standard error, and must have written whole lines,
-# which are a front of what the script writes otherwise; or it must end as if nothing had been refused,
-# where it could do without that memory. Without a script it takes those of examples/. Needs `cc`.
+# One allocation is refused in a run. The run must end with status 6 and its line on standard error,
+# and must have written the text of a front of the script's lines; or it must end as if nothing had
+# been refused, where it could do without that memory. Without a script it takes those of examples/.
+# Needs `cc` and the GNU C library.
 set -u
-root=$(CDPATH='' cd -- "$(dirname -- "$0")/.." && pwd)
+root=$(CDPATH='' cd -- "$(dirname -- "$0")/.." && pwd) || exit 1
 program=$root/crates/switch_main/out/switch_main
-work=$(mktemp -d)
+work=$(mktemp -d) || exit 1
 trap 'rm -rf "$work"' EXIT
 
-# Stands before the C library: it refuses the allocation whose number is in REFUSED of those that the
-# program itself asks for, and says so by a file.
+# Tells what was wrong, and ends.
+wrong() {
+    echo "$1" >&2
+    exit 1
+}
+
+# Stands before the C library: it refuses the allocation whose number is in REFUSED, of those that the
+# program itself asks for, and says so by a file. The program asks by these two calls alone.
 cat >"$work/refuse.c" <<'END'
 #define _GNU_SOURCE
 #include <dlfcn.h>
+#include <errno.h>
 #include <fcntl.h>
 #include <stdlib.h>
 #include <string.h>
@@ -31,6 +39,7 @@ static int refuses(void *caller) {
     if (!dladdr(caller, &from) || !strstr(from.dli_fname, "switch_main")) return 0;
     if (++count != refused) return 0;
     close(open(getenv("REFUSED_FILE"), O_CREAT | O_WRONLY, 0600));
+    errno = ENOMEM;
     return 1;
 }
 
@@ -45,22 +54,33 @@ END
 cc -O1 -fno-optimize-sibling-calls -shared -fPIC -o "$work/refuse.so" "$work/refuse.c" -ldl || exit 1
 "$root/upi_switch" script <"$root/examples/one_payment.script" >/dev/null || exit 1
 
-# Tells what was wrong, and ends.
-wrong() {
-    echo "$1" >&2
-    exit 1
+# What the lines of a script write, each front of it: `fronts/N` is written by the first N lines. A
+# front that is read to its end also has the end's text, or isn't a script; so each is followed here by
+# a line that is refused.
+fronts_of() {
+    rm -rf "$work/fronts"
+    mkdir "$work/fronts"
+    lines=$(wc -l <"$1")
+    line=0
+    while [ "$line" -le "$lines" ]; do
+        { head -n "$line" "$1" && echo "NONE"; } | "$program" script >"$work/fronts/$line" 2>/dev/null
+        line=$((line + 1))
+    done
 }
 
-# Whether a text is a front of another, and whole lines.
+# Whether what was written is the text of a front of the lines.
 is_front() {
-    size=$(wc -c <"$1")
-    head -c "$size" "$2" | cmp -s - "$1" || return 1
-    [ "$size" -eq 0 ] || [ "$(tail -c 1 "$1" | wc -l)" -eq 1 ]
+    for front in "$work"/fronts/*; do
+        if cmp -s "$front" "$work/out"; then
+            return 0
+        fi
+    done
+    return 1
 }
 
 # Whether a run ended for want of memory.
 is_ended() {
-    [ "$status" -eq 6 ] && [ "$(cat "$work/err")" = "upi: no memory" ] && is_front "$work/out" "$work/whole"
+    [ "$status" -eq 6 ] && [ "$(cat "$work/err")" = "upi: no memory" ] && is_front
 }
 
 # Whether a run ended as if nothing had been refused.
@@ -70,8 +90,10 @@ is_whole() {
 
 # Runs a script with each allocation refused.
 refuse_each() {
+    [ -r "$1" ] || wrong "$1: can't be read"
     "$program" script <"$1" >"$work/whole" 2>"$work/said"
     ended=$?
+    fronts_of "$1"
     number=0
     spared=0
     while :; do
@@ -88,6 +110,7 @@ refuse_each() {
         fi
     done
     is_whole || wrong "$1: another end with none refused"
+    [ "$spared" -lt $((number - 1)) ] || wrong "$1: no run ended for want of memory"
     echo "$1: $((number - 1)) allocations refused in turn, $spared of them not needed"
 }
 

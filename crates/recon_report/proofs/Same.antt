@@ -19,16 +19,16 @@ use Rattle.upi_base.specs.declared.setup.SetupLine.TheVariants as line
 use Rattle.upi_laws.specs.declared.places.Opening.{Opening}
 use Rattle.upi_laws.specs.Places.{opened, opening, decision, debit, credit, reversal}
 use Rattle.upi_laws.specs.Outcomes.{outcome_by, outcome_of}
-use Rattle.upi_laws.specs.Postings.{answer, is_posted, balance, flight}
+use Rattle.upi_laws.specs.Postings.{answer, is_posted, balance}
 use Rattle.upi_laws.specs.Settlement.{bank_at, is_settled, is_deemed, items_of, settle, received_in, paid_in, net, unmatched, accounts, banks}
 use Rattle.upi_base.proofs.Lists.{sum_flat_map, sum_all, sum_map}
 use Rattle.upi_laws.proofs.Openings.{openings_are_found}
 use Rattle.upi_replay.specs.declared.rows.Row.{Row}
 use Rattle.upi_replay.specs.declared.found.Found.{Found}
 use Rattle.upi_replay.specs.Rows.{row_of, rows_of, row_outcome, IsFound}
-use Rattle.upi_replay.proofs.Steps.{balance_is}
+use Rattle.upi_replay.proofs.Steps.{balance_is, flight_is}
 use Rattle.recon_report.specs.Report.{header, outcome_line, outcome_lines, settle_line, settle_lines, net_line, net_lines, recon_line, recon_lines, balance_line, balance_lines, flight_line, report_text}
-use Rattle.recon_report.specs.ByRows.{row_outcome_line, paid_line, received_line, row_settle_lines, settle_lines_at, row_received, row_paid, rows_received, rows_paid, rows_net, net_line_at, row_recon_line, balance_line_at, row_flight, rows_flight, report_of_rows}
+use Rattle.recon_report.specs.ByRows.{row_outcome_line, paid_line, received_line, row_settle_lines, settle_lines_at, row_received, row_paid, rows_received, rows_paid, rows_net, net_line_at, row_recon_line, balance_line_at, report_of_rows}
 
 -- what is said of an opening that its name finds
 abbrev Finds : List SetupLine → List Entry → Opening → Type 0
@@ -167,9 +167,6 @@ recon_is S h =
 
     deemed_unmoved : Opening → Option Outcome → Bool
     deemed_unmoved o x = is_deemed x && not (is_posted (answer S h o.terms.txn leg.Credit))
-
-flight_is : (S : List SetupLine) (h : List Entry) → rows_flight (rows_of S h) ≡ flight S h
-flight_is S h = sum_map row_flight (row_of S h) (opened S h)
 
 -- the lines of a setup that give a bank, and those that give an account
 pub record OnlyAtBanks (f : SetupLine → List ℕ) (g : List ℕ → List ℕ) : Type 0 where

@@ -6,10 +6,10 @@ use Rattle.upi_base.specs.declared.message.PayReq.{PayReq}
 use Rattle.upi_base.specs.declared.settled.Side.TheVariants as side
 use Rattle.upi_base.specs.declared.setup.SetupLine.{SetupLine}
 use Rattle.upi_base.specs.declared.setup.SetupLine.TheVariants as line
-use Rattle.upi_laws.specs.Postings.{is_posted, in_flight}
+use Rattle.upi_laws.specs.Postings.{is_posted}
 use Rattle.upi_laws.specs.Settlement.{bank_at, is_settled, is_deemed}
 use Rattle.upi_replay.specs.declared.rows.Row.{Row}
-use Rattle.upi_replay.specs.Rows.{row_outcome, row_balance}
+use Rattle.upi_replay.specs.Rows.{row_outcome, row_balance, rows_flight}
 use Rattle.recon_report.specs.Report.{header, outcome_line, settle_line, net_line, recon_line, balance_line, flight_line}
 
 abbrev pub row_outcome_line : Row → List ℕ
@@ -60,12 +60,6 @@ abbrev pub balance_line_at : List SetupLine → List Row → SetupLine → List 
 balance_line_at S rows (line.Account ac opening no_debit no_credit) =
     balance_line (record { ac = ac; opening = opening; no_debit = no_debit; no_credit = no_credit }) (row_balance S rows (record { ac = ac; opening = opening; no_debit = no_debit; no_credit = no_credit }))
 balance_line_at S rows _ = []
-
-abbrev pub row_flight : Row → ℕ
-row_flight r = in_flight r.debited r.credited r.reversed r.opening.terms
-
-abbrev pub rows_flight : List Row → ℕ
-rows_flight rows = sum_by row_flight rows
 
 -- the whole report
 unfoldable pub report_of_rows : List SetupLine → List Row → List ℕ

@@ -7,10 +7,11 @@ ghost use Rattle.recon_report.specs.Report.{header, report_text};
 ghost use Rattle.recon_report.specs.ByRows.{row_outcome_line, row_settle_lines, settle_lines_at, net_line_at, row_recon_line, balance_line_at, report_of_rows};
 
 use crate::lines::{push_balance, push_flight, push_net, push_outcome, push_recon, push_settled};
-use crate::sums::{flight, net};
+use crate::sums::net;
 use std::alloc::Global;
 use upi_base::{Account, BankCode, NoMemory, SetupLine};
 use upi_replay::postings::balance;
+use upi_replay::readers::all_in_flight;
 use upi_replay::{Found, Row};
 
 fn push_header(out: &mut Vec<u8>) -> Result<(), NoMemory>
@@ -143,7 +144,7 @@ fn push_report(setup: &[SetupLine], rows: &[Row], out: &mut Vec<u8>) -> Result<(
     push_nets(setup, rows, out)?;
     push_reconciliation(setup, rows, out)?;
     push_balances(setup, rows, out)?;
-    push_flight(flight(rows), out)?;
+    push_flight(all_in_flight(rows), out)?;
     Ok(())
 }
 

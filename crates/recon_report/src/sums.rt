@@ -1,11 +1,10 @@
 //! Sums over what was found, in paise.
 ghost use Rattle.std.specs.Prelude.{◌≡◌, ◌≤◌, ◌<◌, ◌^◌};
-ghost use Rattle.recon_report.specs.ByRows.{row_received, rows_received, row_paid, rows_paid, rows_net, row_flight, rows_flight};
+ghost use Rattle.recon_report.specs.ByRows.{row_received, rows_received, row_paid, rows_paid, rows_net};
 
 use crate::lines::{is_at, is_settled};
 use upi_base::{BankCode, SetupLine};
 use upi_replay::Row;
-use upi_replay::postings::is_posted;
 
 fn received(setup: &[SetupLine], bank: &BankCode, row: &Row) -> u64
     ensures sum { result ≡ row_received setup.now bank.now row.now }
@@ -58,27 +57,4 @@ pub(crate) fn net(setup: &[SetupLine], bank: &BankCode, rows: &[Row]) -> i128
     ensures { result ≡ rows_net setup.now bank.now rows.now }
 {
     total_received(setup, bank, rows) as i128 - total_paid(setup, bank, rows) as i128
-}
-
-fn in_flight(row: &Row) -> u64
-    ensures sum { result ≡ row_flight row.now }
-    ensures bound { result ≤ 1_000_000_000_000_000 }
-{
-    if is_posted(row.debited) && !is_posted(row.credited) && !is_posted(row.reversed) {
-        row.opening.terms.amount.get()
-    } else {
-        0
-    }
-}
-
-/// Money in flight.
-pub(crate) fn flight(rows: &[Row]) -> u128
-    ensures sum { result ≡ rows_flight rows.now }
-    ensures bound { result < 2 ^ 120 }
-{
-    let mut sum: u128 = 0;
-    for row in rows {
-        sum += u128::from(in_flight(row));
-    }
-    sum
 }

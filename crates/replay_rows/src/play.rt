@@ -85,6 +85,17 @@ fn confirmed(alloc: Global, line: &[u8]) -> Result<Message, Fail> {
     Ok(Message::Confirmed(Boxed::new(alloc, confirmed)?))
 }
 
+// A message that a PSP may not send.
+fn foreign(kind: &[u8]) -> Option<Api> {
+    match kind {
+        b"RESPPAY" => Some(Api::RespPay),
+        b"REQAUTH" => Some(Api::ReqAuthDetails),
+        b"RESPCHK" => Some(Api::RespChkTxn),
+        b"CONFIRM" => Some(Api::ReqTxnConfirmation),
+        _ => None,
+    }
+}
+
 fn message(alloc: Global, line: &[u8]) -> Result<Message, Fail> {
     match word(line, 6) {
         b"PAY" => payment(alloc, Kind::Pay, line),
@@ -95,8 +106,8 @@ fn message(alloc: Global, line: &[u8]) -> Result<Message, Fail> {
             txn: txn(line, 7)?,
         })),
         b"CONFIRMED" => confirmed(alloc, line),
-        _ => Ok(Message::Foreign {
-            api: Api::RespPay,
+        kind => Ok(Message::Foreign {
+            api: foreign(kind).ok_or("no message")?,
             head: head()?,
         }),
     }
@@ -124,7 +135,8 @@ pub(crate) fn call_of(alloc: Global, line: &[u8]) -> Result<Call, Fail> {
         b"DELIVER" => Ok(Call::Deliver(number(word(line, 5)).ok_or("no number")?)),
         b"LOSE" => Ok(Call::Lose(number(word(line, 5)).ok_or("no number")?)),
         b"LATE" => Ok(Call::Late(txn(line, 5)?)),
-        _ => Ok(Call::Close),
+        b"CLOSE" => Ok(Call::Close),
+        _ => Err(Fail::new("no call")),
     }
 }
 

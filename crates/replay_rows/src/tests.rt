@@ -3,10 +3,12 @@ use crate::{edges, rows};
 use std::alloc::Global;
 use std::test::Fail;
 use upi_base::{
-    AcNum, AccountRef, Answer, AuditWhy, BankCode, Call, Code, Entry, Moment, Paise, Reply,
-    SentList, Setup, TxnId, Verdict, account_named, txn_shard, write_number,
+    AcNum, AccountRef, Answer, AuditWhy, BankCode, Call, Code, Entry, Moment, Outcome, Paise,
+    Reply, SentList, Setup, TxnId, Verdict, account_named, txn_shard, write_number,
 };
+use upi_replay::rows::row_at;
 use upi_replay::{Found, found_in, replay};
+use upi_text::word;
 
 fn field(line: &[u8], place: usize) -> &[u8] {
     line.split(|c| *c == b',').nth(place).unwrap_or(b"")
@@ -14,6 +16,17 @@ fn field(line: &[u8], place: usize) -> &[u8] {
 
 fn paise(text: &[u8]) -> Result<u128, Fail> {
     Ok(u128::from(Paise::read(text).ok_or("no sum")?.get()))
+}
+
+// An entry at the first moment that sends nothing.
+fn silent(alloc: Global, call: Call, reply: Reply) -> Result<Entry, Fail> {
+    Ok(Entry {
+        call,
+        at: Moment::of(0).ok_or("no moment")?,
+        caller: 0,
+        reply,
+        sent: SentList::new(alloc),
+    })
 }
 
 // The status that a report's line gives of a transaction.
@@ -30,16 +43,23 @@ fn status_wanted(alloc: Global, line: &[u8]) -> Result<Vec<u8>, Fail> {
     Ok(out)
 }
 
-fn status_found(alloc: Global, found: &Found, line: &[u8]) -> Result<Vec<u8>, Fail> {
+fn status_found(alloc: Global, outcome: Option<Outcome>) -> Result<Vec<u8>, Fail> {
+    written(
+        alloc,
+        &[silent(alloc, Call::Close, Reply::Status(outcome))?],
+    )
+}
+
+// Whether a transaction has the amount and the outcome that a report's line gives.
+fn outcome_is_so(alloc: Global, found: &Found, line: &[u8]) -> Result<bool, Fail> {
     let txn = TxnId::read(field(line, 1)).ok_or("no transaction")?;
-    let entry = Entry {
-        call: Call::Close,
-        at: Moment::of(0).ok_or("no moment")?,
-        caller: 0,
-        reply: Reply::Status(found.outcome(&txn)),
-        sent: SentList::new(alloc),
-    };
-    written(alloc, &[entry])
+    let row = row_at(&found.rows, &txn).ok_or("not opened")?;
+    let amount = u128::from(row.opening.terms.amount.get());
+    let given = status_found(alloc, row.outcome())?;
+    Ok(
+        amount == paise(field(line, 4))?
+            && given.as_slice() == status_wanted(alloc, line)?.as_slice(),
+    )
 }
 
 fn balance(found: &Found, setup: &Setup, line: &[u8]) -> Result<u128, Fail> {
@@ -52,28 +72,45 @@ fn balance(found: &Found, setup: &Setup, line: &[u8]) -> Result<u128, Fail> {
     Ok(found.balance(lines, &account))
 }
 
-// Whether what a report's line says is found.
+// Whether what a report's line says is found. A line that isn't known is not so.
 fn line_is_so(alloc: Global, found: &Found, setup: &Setup, line: &[u8]) -> Result<bool, Fail> {
     match field(line, 0) {
-        b"OUTCOME" => {
-            let given = status_found(alloc, found, line)?;
-            Ok(given.as_slice() == status_wanted(alloc, line)?.as_slice())
-        }
+        b"OUTCOME" => outcome_is_so(alloc, found, line),
         b"BALANCE" => Ok(balance(found, setup, line)? == paise(field(line, 4))?),
         b"FLIGHT" => Ok(found.flight() == paise(field(line, 4))?),
-        _ => Ok(true),
+        _ => Ok(false),
     }
 }
 
-// Whether a history comes to what is reported.
+// Whether as many outcomes are reported as there are.
+fn all_are_told(found: &Found, text: &[u8]) -> bool {
+    let told = text
+        .split(|c| *c == b'\n')
+        .filter(|line| field(line, 0) == b"OUTCOME".as_slice())
+        .count();
+    let ended = found
+        .rows
+        .iter()
+        .filter(|row| row.outcome().is_some())
+        .count();
+    told == ended
+}
+
+// Whether a history comes to what is reported: that is each line but those of the journal.
 fn ends_so(alloc: Global, setup: &Setup, history: &[Entry], text: &[u8]) -> Result<bool, Fail> {
     let found = found_in(alloc, setup.lines.items(), history)?;
     for line in text.split(|c| *c == b'\n') {
-        if !line_is_so(alloc, &found, setup, line)? {
-            return Ok(false);
+        match word(line, 0) {
+            b"E" => {}
+            b"M" => {}
+            _ => {
+                if !line_is_so(alloc, &found, setup, line)? {
+                    return Ok(false);
+                }
+            }
         }
     }
-    Ok(true)
+    Ok(all_are_told(&found, text))
 }
 
 // What of a row doesn't go as written: nothing, where it is empty.
@@ -149,8 +186,6 @@ fn losses_and_delays_go_as_written(rt: HostRuntime) -> Result<(), Fail> {
             rows::SETUP,
             rows::UNCONFIRMED,
         ),
-        ("an approval in time", rows::SETUP_ANN_ASKS, rows::IN_TIME),
-        ("an approval too late", rows::SETUP_ANN_ASKS, rows::EXPIRED),
     ];
     for (name, setup, text) in rows {
         assert_eq!(rt; difference(rt.alloc(), setup, text)?, "", "{name}");
@@ -159,18 +194,27 @@ fn losses_and_delays_go_as_written(rt: HostRuntime) -> Result<(), Fail> {
 }
 
 #[test]
+fn approvals_go_as_written(rt: HostRuntime) -> Result<(), Fail> {
+    let rows = [
+        ("an approval in time", rows::IN_TIME),
+        ("an approval too late", rows::EXPIRED),
+        ("approvals too late, then Lates", rows::LATE_BEHIND),
+        ("an approval of another amount", rows::OTHER_AMOUNT),
+        ("an approval by the other PSP", rows::OTHER_SENDER),
+    ];
+    for (name, text) in rows {
+        assert_eq!(rt;
+            difference(rt.alloc(), rows::SETUP_ANN_ASKS, text)?,
+            "",
+            "{name}"
+        );
+    }
+    Ok(())
+}
+
+#[test]
 fn refusals_go_as_written(rt: HostRuntime) -> Result<(), Fail> {
     let rows = [
-        (
-            "an approval of another amount",
-            rows::SETUP_ANN_ASKS,
-            rows::OTHER_AMOUNT,
-        ),
-        (
-            "an approval by the other PSP",
-            rows::SETUP_ANN_ASKS,
-            rows::OTHER_SENDER,
-        ),
         (
             "a status of an unknown payment",
             rows::SETUP,
@@ -214,6 +258,30 @@ fn what_rows_leave_out_goes_as_written(rt: HostRuntime) -> Result<(), Fail> {
     ];
     for (name, setup, text) in rows {
         assert_eq!(rt; difference(rt.alloc(), setup, text)?, "", "{name}");
+    }
+    Ok(())
+}
+
+#[test]
+fn wrong_reports_are_noticed(rt: HostRuntime) -> Result<(), Fail> {
+    let closed = b"E 1 0 0 CLOSE = CLOSED
+FLIGHT,,,,0.01,";
+    let unknown = b"E 1 0 0 CLOSE = CLOSED
+FLOAT,,,,0.00,";
+    let untold = b"E 1 0 0 HEAR alpha PAY T1 30.00 ann@alpha bob@beta - - - = OK
+M 1 SWITCH beta REQAUTH T1 30.00
+E 2 0 0 CLOSE = CLOSED";
+    let rows = [
+        ("another sum", closed.as_slice()),
+        ("a line that isn't known", unknown.as_slice()),
+        ("an outcome that isn't told", untold.as_slice()),
+    ];
+    for (name, text) in rows {
+        assert_eq!(rt;
+            difference(rt.alloc(), rows::SETUP, text)?,
+            "report",
+            "{name}"
+        );
     }
     Ok(())
 }
@@ -294,20 +362,40 @@ fn spoiled(
     Ok(out)
 }
 
-#[test]
-fn the_first_wrong_entry_is_told(rt: HostRuntime) -> Result<(), Fail> {
-    let alloc = rt.alloc();
+// The verdict on a payment with the entry at a place changed.
+fn verdict(alloc: Global, place: usize, spoil: Spoil) -> Result<Verdict, Fail> {
     let setup = setup_of(alloc, rows::SETUP)?;
     let history = play(alloc, &setup, rows::PAID)?;
-    let no = |entry, why| Verdict::No { entry, why };
+    let copy = spoiled(alloc, &history, place, spoil)?;
+    Ok(replay(alloc, &setup, &copy)?)
+}
+
+fn no(entry: u64, why: AuditWhy) -> Verdict {
+    Verdict::No { entry, why }
+}
+
+#[test]
+fn the_first_wrong_reply_or_message_is_told(rt: HostRuntime) -> Result<(), Fail> {
     let declined = Reply::Leg(Answer::Declined(Code::Funds));
-    let gamma = b"E 1 0 0 HEAR gamma PAY T1 30.00 ann@alpha bob@beta - - -".as_slice();
     let table = [
         (4, Spoil::Replied(declined), no(4, AuditWhy::Reply)),
         (11, Spoil::Replied(Reply::Told), no(11, AuditWhy::Reply)),
         (4, Spoil::Unsent, no(4, AuditWhy::Sent)),
         (1, Spoil::SentTwice, no(1, AuditWhy::Sent)),
         (7, Spoil::Turned, no(7, AuditWhy::Sent)),
+        (3, Spoil::At(1_704_067_230), no(3, AuditWhy::Reply)),
+        (5, Spoil::By(9), Verdict::Yes { entries: 11 }),
+    ];
+    for (i, (place, spoil, wanted)) in table.iter().enumerate() {
+        assert_eq!(rt; verdict(rt.alloc(), *place, *spoil)?, *wanted, "{i}");
+    }
+    Ok(())
+}
+
+#[test]
+fn the_first_wrong_call_is_told(rt: HostRuntime) -> Result<(), Fail> {
+    let gamma = b"E 1 0 0 HEAR gamma PAY T1 30.00 ann@alpha bob@beta - - -".as_slice();
+    let table = [
         (1, Spoil::Called(gamma), no(1, AuditWhy::Call)),
         (
             2,
@@ -325,17 +413,44 @@ fn the_first_wrong_entry_is_told(rt: HostRuntime) -> Result<(), Fail> {
             Spoil::Called(b"E 10 0 0 LATE T1"),
             no(10, AuditWhy::Reply),
         ),
-        (3, Spoil::At(1_704_067_230), no(3, AuditWhy::Reply)),
         (3, Spoil::Omitted, no(3, AuditWhy::Call)),
         (4, Spoil::Twice, no(7, AuditWhy::Reply)),
         (8, Spoil::Omitted, Verdict::Yes { entries: 10 }),
         (8, Spoil::Twice, Verdict::Yes { entries: 12 }),
-        (5, Spoil::By(9), Verdict::Yes { entries: 11 }),
     ];
-    for (i, (place, spoil, verdict)) in table.iter().enumerate() {
-        let copy = spoiled(alloc, &history, *place, *spoil)?;
-        assert!(rt; replay(alloc, &setup, &copy)? == *verdict, "{i}");
+    for (i, (place, spoil, wanted)) in table.iter().enumerate() {
+        assert_eq!(rt; verdict(rt.alloc(), *place, *spoil)?, *wanted, "{i}");
     }
+    Ok(())
+}
+
+// There is room for 2,097,152 entries, and behind them for the first Close.
+#[test]
+fn an_entry_after_the_limit_is_told(rt: HostRuntime) -> Result<(), Fail> {
+    let alloc = rt.alloc();
+    let setup = setup_of(alloc, rows::SETUP)?;
+    let unknown = TxnId::read(b"X1").ok_or("no name")?;
+    let mut history = Vec::new(alloc);
+    for _place in 0..2_097_152 {
+        history.push(silent(alloc, Call::Late(unknown.copy()), Reply::NotDue)?)?;
+    }
+    let full = Verdict::Yes { entries: 2_097_152 };
+    assert_eq!(rt; replay(alloc, &setup, &history)?, full);
+    history.push(silent(alloc, Call::Late(unknown), Reply::NotDue)?)?;
+    assert_eq!(rt;
+        replay(alloc, &setup, &history)?,
+        no(2_097_153, AuditWhy::Call)
+    );
+    history.truncate(2_097_152);
+    history.push(silent(alloc, Call::Close, Reply::Closed)?)?;
+    let closed = Verdict::Yes { entries: 2_097_153 };
+    assert_eq!(rt; replay(alloc, &setup, &history)?, closed);
+    let again = Reply::Ack(Some(Code::Closed));
+    history.push(silent(alloc, Call::Close, again)?)?;
+    assert_eq!(rt;
+        replay(alloc, &setup, &history)?,
+        no(2_097_154, AuditWhy::Call)
+    );
     Ok(())
 }
 
@@ -376,13 +491,7 @@ fn asked_for(alloc: Global, number: u64) -> Result<Call, Fail> {
 fn asked(alloc: Global, numbers: &[u64]) -> Result<Vec<Entry>, Fail> {
     let mut history = Vec::new(alloc);
     for number in numbers {
-        history.push(Entry {
-            call: asked_for(alloc, *number)?,
-            at: Moment::of(0).ok_or("no moment")?,
-            caller: 0,
-            reply: Reply::Ack(None),
-            sent: SentList::new(alloc),
-        })?;
+        history.push(silent(alloc, asked_for(alloc, *number)?, Reply::Ack(None))?)?;
     }
     Ok(history)
 }

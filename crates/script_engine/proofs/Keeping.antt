@@ -1,11 +1,10 @@
 -- What an engine keeps, with one more entry.
-use Rattle.std.proofs.Common.{◌≡◌, ℕ, ◌+◌, ◌<◌, ◌^◌, Bool, true, false, List, [], ◌∷◌, ◌++◌, length, refl, sym, ◌∙◌, ap, subst}
+use Rattle.std.proofs.Common.{◌≡◌, ℕ, ◌+◌, ◌<◌, ◌^◌, Bool, true, List, [], ◌∷◌, ◌++◌, length, refl, sym, ◌∙◌, ap, subst}
 use Rattle.std.proofs.lemmas.List.{reverse-append}
 use Rattle.upi_base.specs.declared.entry.Entry.{Entry}
 use Rattle.upi_base.specs.declared.entry.Call.{Call}
-use Rattle.upi_base.specs.declared.entry.Call.TheVariants as call
 use Rattle.upi_base.specs.declared.setup.SetupLine.{SetupLine}
-use Rattle.upi_laws.specs.Legal.{may_come, IsRight, Legal}
+use Rattle.upi_laws.specs.Legal.{may_come, IsRight}
 use Rattle.upi_replay.specs.declared.found.Found.{Found}
 use Rattle.upi_replay.specs.Rows.{past, IsFound}
 use Rattle.script_engine.specs.Play.{entry_of}

@@ -1,16 +1,12 @@
 -- The next message to be delivered.
-use Rattle.std.proofs.Common.{◌≡◌, ℕ, zero, suc, ◌+◌, ◌-◌, ◌<◌, ◌≤◌, Bool, true, false, cond, List, [], ◌∷◌, ◌++◌, length, Option, Some, None, refl, sym, ◌∙◌, ap, subst, arith}
+use Rattle.std.proofs.Common.{◌≡◌, ℕ, zero, suc, ◌+◌, ◌-◌, ◌<◌, ◌≤◌, Bool, true, false, List, [], ◌∷◌, length, Some, None, refl, sym, ◌∙◌, ap, arith}
 use Rattle.std.specs.Prelude.{◌==◌, ◌||◌, nat_lt, nat_le, if◌then◌else◌, slice_get, is_some}
-use Rattle.std.specs.List.{list_any}
-use Rattle.std.proofs.lemmas.Bool.{le-leb}
 use Rattle.std.proofs.lemmas.Bool.Decides.{nat_tests}
-use Rattle.std.proofs.lemmas.Option.{slice_get-get_or}
 use Rattle.std.proofs.lemmas.List.{length-append}
 use Rattle.upi_base.specs.declared.entry.Entry.{Entry}
 use Rattle.upi_base.specs.declared.entry.Call.{Call}
 use Rattle.upi_base.specs.declared.entry.Call.TheVariants as call
-use Rattle.upi_base.specs.declared.sent.Sent.{Sent}
-use Rattle.upi_laws.specs.History.{sent, message_at, numbered}
+use Rattle.upi_laws.specs.History.{sent, message_at}
 use Rattle.upi_replay.proofs.Messages.{numbered_at}
 use Rattle.upi_text.specs.Journal.{sent_count}
 use Rattle.script_engine.specs.Play.{takes, is_taken, lowest_from, lowest_pending}

@@ -1,10 +1,9 @@
 -- The payment that a line sends.
-use Rattle.std.proofs.Common.{◌≡◌, ℕ, List, Option, Some, None, refl, sym, ap}
+use Rattle.std.proofs.Common.{◌≡◌, ℕ, List, Option, Some, None, ap}
 use Rattle.std.specs.Prelude.{MatchOption}
 use Rattle.std.specs.Option.{option_and_then, option_map}
 use Rattle.upi_base.specs.declared.message.Message.{Message}
 use Rattle.upi_base.specs.declared.message.Message.TheVariants as message
-use Rattle.upi_base.specs.declared.message.PayReq.{PayReq}
 use Rattle.upi_msg.specs.Tree.{message_text}
 use Rattle.upi_msg.specs.Plain.{plain_in, payment, IsPlainPay, IsOther}
 

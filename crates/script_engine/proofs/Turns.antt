@@ -1,13 +1,13 @@
 -- The turns of RUN.
-use Rattle.std.proofs.Common.{◌≡◌, ℕ, zero, suc, ◌+◌, ◌-◌, ◌<◌, ◌≤◌, Bool, true, false, List, [], ◌∷◌, ◌++◌, length, Option, Some, None, refl, sym, ◌∙◌, ap, subst, arith, append_assoc, append-nil}
-use Rattle.std.specs.Prelude.{◌&&◌, ◌||◌, nat_lt, nat_le, if◌then◌else◌, is_some}
+use Rattle.std.proofs.Common.{◌≡◌, ℕ, zero, suc, ◌<◌, ◌≤◌, Bool, true, false, List, [], ◌++◌, length, Some, None, refl, sym, ◌∙◌, ap, arith, append_assoc, append-nil}
+use Rattle.std.specs.Prelude.{◌||◌, nat_lt, nat_le, if◌then◌else◌, is_some}
 use Rattle.std.proofs.lemmas.Bool.{and_from}
 use Rattle.std.proofs.lemmas.Bool.Decides.{nat_tests}
 use Rattle.upi_base.specs.declared.entry.Entry.{Entry}
 use Rattle.upi_base.specs.declared.entry.Call.TheVariants as call
 use Rattle.upi_base.specs.declared.setup.SetupLine.{SetupLine}
 use Rattle.upi_laws.specs.History.{message_at}
-use Rattle.upi_laws.specs.Legal.{max_entries, has_room, names_known, may_come}
+use Rattle.upi_laws.specs.Legal.{max_entries, has_room, may_come}
 use Rattle.upi_text.specs.Journal.{sent_count}
 use Rattle.script_engine.specs.Play.{Play, Played, put_call, full_text, lowest_pending, run_turn, run_turns, run_all, after_text}
 use Rattle.script_engine.specs.Kept.{IsNext, IsRunning}

@@ -1,7 +1,6 @@
 -- What an engine keeps beside its play.
 use Rattle.std.specs.Prelude.{◌≡◌, ℕ, ◌+◌, ◌<◌, ◌≤◌, ◌^◌, Bool, true, false, List, [], ◌++◌, Result, Ok, Err}
 use Rattle.upi_base.specs.declared.entry.Entry.{Entry}
-use Rattle.upi_base.specs.declared.entry.Call.{Call}
 use Rattle.upi_base.specs.declared.setup.SetupLine.{SetupLine}
 use Rattle.upi_base.specs.Setup.{has_psp}
 use Rattle.upi_laws.specs.Legal.{Legal}

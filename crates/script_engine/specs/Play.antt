@@ -1,5 +1,5 @@
 -- What a script plays: the history that its lines make, and the text that they write.
-use Rattle.std.specs.Prelude.{ℕ, zero, suc, ◌+◌, ◌==◌, Bool, true, false, not, ◌&&◌, ◌||◌, if◌then◌else◌, List, [], ◌∷◌, ◌++◌, length, codes, Option, Some, None, Result, Ok, Err}
+use Rattle.std.specs.Prelude.{ℕ, zero, suc, ◌+◌, ◌==◌, Bool, true, false, if◌then◌else◌, List, [], ◌∷◌, ◌++◌, length, codes, Option, Some, None, Result, Ok, Err}
 use Rattle.std.specs.Option.{unwrap_or}
 use Rattle.std.specs.List.{list_any}
 use Rattle.std.specs.Fmt.{decimal}
@@ -9,7 +9,6 @@ use Rattle.upi_base.specs.declared.entry.Call.TheVariants as call
 use Rattle.upi_base.specs.declared.message.Input.TheVariants as input
 use Rattle.upi_base.specs.declared.message.Message.{Message}
 use Rattle.upi_base.specs.declared.setup.SetupLine.{SetupLine}
-use Rattle.upi_laws.specs.History.{sent, is_closed}
 use Rattle.upi_laws.specs.Replies.{reply_to}
 use Rattle.upi_laws.specs.Sending.{sent_by}
 use Rattle.upi_laws.specs.Legal.{max_entries, has_room}
@@ -135,3 +134,21 @@ done_with p (Err e) = Err e
 -- a line, played
 abbrev pub play_line : Play → List ℕ → Result Played Refusal
 play_line p text = done_with p (script_read p text)
+
+-- more is played, behind a text
+abbrev pub onto : List ℕ → Result Played Refusal → Result Played Refusal
+onto text (Ok q) = Ok (after_text text q)
+onto text (Err e) = Err e
+
+abbrev pub and_then : Result Played Refusal → (Play → Result Played Refusal) → Result Played Refusal
+and_then (Ok q) more = onto q.text (more q.play)
+and_then (Err e) more = Err e
+
+-- these lines are played one after another, up to the first that is refused
+abbrev pub play_from : List (List ℕ) → Play → Result Played Refusal
+play_from [] p = Ok (record { play = p; text = [] })
+play_from (l ∷ ls) p = and_then (play_line p l) (play_from ls)
+
+-- a script of these lines
+abbrev pub play : List (List ℕ) → Result Played Refusal
+play lines = play_from lines blank

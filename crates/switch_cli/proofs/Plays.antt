@@ -1,8 +1,7 @@
 -- Lines that are played one after another.
 use Rattle.std.proofs.Common.{◌≡◌, ℕ, List, [], ◌∷◌, ◌++◌, Result, Ok, Err, refl, sym, ap, ◌∙◌, append_assoc, append-nil}
 use Rattle.upi_text.specs.declared.refusal.Refusal.{Refusal}
-use Rattle.script_engine.specs.Play.{Play, Played, play_line, after_text}
-use Rattle.switch_cli.specs.Run.{onto, and_then, play_from}
+use Rattle.script_engine.specs.Play.{Play, Played, play_line, after_text, onto, and_then, play_from}
 
 onto_nothing : (r : Result Played Refusal) → onto [] r ≡ r
 onto_nothing (Ok q) = refl

@@ -24,9 +24,9 @@ use Rattle.upi_text.proofs.Kept.{kept}
 use Rattle.script_engine.specs.declared.line.ScriptRead.{ScriptRead}
 use Rattle.script_engine.specs.declared.line.ScriptRead.TheVariants as says
 use Rattle.script_engine.specs.Script.{setup_part, if_built, is_built, unbuilt}
-use Rattle.script_engine.specs.Play.{Play, Played, blank, full_text, lowest_pending, put_call, try_call, after_text, run_turn, run_turns, played, script_read, done_with, play_line}
+use Rattle.script_engine.specs.Play.{Play, Played, blank, full_text, lowest_pending, put_call, try_call, after_text, run_turn, run_turns, played, script_read, done_with, play_line, onto, and_then, play_from, play}
 use Rattle.script_engine.specs.End.{finished}
-use Rattle.switch_cli.specs.Run.{onto, and_then, play_from, play, IsTrusted}
+use Rattle.switch_cli.specs.Run.{IsTrusted}
 
 -- ---- what a line says is what the setup takes
 

@@ -11,10 +11,10 @@ use Rattle.upi_io.specs.declared.status.Status.{Status}
 use Rattle.upi_io.specs.declared.status.Status.TheVariants.{Done, Usage, BadLine, TooLong, ReadFault, WriteFault, NoMemory}
 use Rattle.upi_text.specs.Refusals.{refusal}
 use Rattle.upi_text.specs.declared.refusal.Refusal.{Refusal}
-use Rattle.script_engine.specs.Play.{Played, blank}
+use Rattle.script_engine.specs.Play.{Played, blank, play}
 use Rattle.script_engine.specs.End.{finished}
 use Rattle.switch_cli.specs.Lines.{is_short, BeginWith, IsOver, IsMore, IsNext, IsLong}
-use Rattle.switch_cli.specs.Run.{play, IsRefused, AreTooMany, EndsEarly, IsBad, Ran, IsScript, IsWhole, Completes}
+use Rattle.switch_cli.specs.Run.{IsRefused, AreTooMany, EndsEarly, IsBad, Ran, IsScript, IsWhole, Completes}
 use Rattle.switch_cli.proofs.Plays.{refused_there}
 
 -- ---- the lines that were read, among all

@@ -1,38 +1,20 @@
 -- A script that is run over the lines of a source: what is written, and how it ends.
-use Rattle.std.specs.Prelude.{◌≡◌, ◌⊎◌, ℕ, ◌+◌, ◌<◌, ◌≤◌, true, false, List, [], ◌∷◌, ◌++◌, length, map, take, Option, Some, None, Result, Ok, Err}
+use Rattle.std.specs.Prelude.{◌≡◌, ◌⊎◌, ℕ, ◌+◌, ◌<◌, ◌≤◌, Bool, true, false, List, [], ◌++◌, length, map, take, Option, Some, None, Ok, Err}
 use Rattle.std.specs.List.{list_all}
 use Rattle.std.specs.Io.KnownBytes.{append_known}
 use Rattle.upi_base.specs.declared.fault.Why.{Why}
 use Rattle.upi_base.specs.declared.fault.Why.TheVariants as why
 use Rattle.upi_base.specs.Setup.{is_setup}
+use Rattle.upi_io.specs.Faults.{Rose}
 use Rattle.upi_io.specs.Lines.{raw_lines, text_of, max_lines}
 use Rattle.upi_io.specs.declared.status.Status.{Status}
 use Rattle.upi_io.specs.declared.status.Status.TheVariants as status
 use Rattle.upi_laws.specs.Legal.{Legal}
 use Rattle.upi_laws.specs.Sound.{Sound}
 use Rattle.upi_text.specs.Refusals.{refusal}
-use Rattle.upi_text.specs.declared.refusal.Refusal.{Refusal}
-use Rattle.script_engine.specs.Play.{Play, Played, blank, play_line, after_text}
+use Rattle.script_engine.specs.Play.{Play, Played, play_line, play}
 use Rattle.script_engine.specs.End.{finished}
 use Rattle.switch_cli.specs.Lines.{is_short, AreRead, IsAny, IsOver, IsMore, IsNext, IsLong}
-
--- more is played, behind a text
-abbrev pub onto : List ℕ → Result Played Refusal → Result Played Refusal
-onto text (Ok q) = Ok (after_text text q)
-onto text (Err e) = Err e
-
-abbrev pub and_then : Result Played Refusal → (Play → Result Played Refusal) → Result Played Refusal
-and_then (Ok q) more = onto q.text (more q.play)
-and_then (Err e) more = Err e
-
--- these lines are played one after another, up to the first that is refused
-abbrev pub play_from : List (List ℕ) → Play → Result Played Refusal
-play_from [] p = Ok (record { play = p; text = [] })
-play_from (l ∷ ls) p = and_then (play_line p l) (play_from ls)
-
--- a script of these lines
-abbrev pub play : List (List ℕ) → Result Played Refusal
-play lines = play_from lines blank
 
 -- The setup is accepted, and the history over it is legal, and sound at each of its prefixes.
 pub record IsTrusted (p : Play) : Type 0 where
@@ -130,3 +112,13 @@ pub record IsWhole (q : Played) (before after : Option (List ℕ)) (s : Status) 
 abbrev pub Completes : Option (List ℕ) → Option (List ℕ) → Option (List ℕ) → Status → Type 0
 Completes None before after s = Unit {0}
 Completes (Some bytes) before after s = (q : Played) → IsScript bytes q → (s ≡ status.NoMemory) ⊎ IsWhole q before after s
+
+-- ---- all that a run of a script promises
+
+-- What it read and wrote and why it ended, of what the source had left and the sink took; that a fault comes only where that object's count of faults rose, and Done only where the source has ended; and that a script is done where neither count rose.
+pub record Runs (source before after : Option (List ℕ)) (reads reads' writes writes' : ℕ) (at_end : Bool) (s : Status) : Type 0 where
+  pub ran : Ran source before after s
+  pub read : s ≡ status.ReadFault → Rose reads reads'
+  pub write : s ≡ status.WriteFault → Rose writes writes'
+  pub ended : s ≡ status.Done → at_end ≡ true
+  pub complete : (Rose reads reads' → ⊥) → (Rose writes writes' → ⊥) → Completes source before after s

@@ -10,11 +10,10 @@ use Rattle.upi_io.specs.declared.status.Status.TheVariants as status
 use Rattle.upi_text.specs.Refusals.{refusal}
 use Rattle.upi_base.specs.declared.fault.EngineFault.{EngineFault}
 use Rattle.upi_base.specs.declared.fault.EngineFault.TheVariants as fault
-use Rattle.script_engine.specs.Play.{Play, Played, play_line}
+use Rattle.script_engine.specs.Play.{Play, Played, play_line, play}
 use Rattle.script_engine.specs.End.{finished}
 use Rattle.switch_cli.specs.Lines.{BeginWith}
 use Rattle.upi_laws.specs.Legal.{Legal}
-use Rattle.switch_cli.specs.Run.{play}
 use Rattle.switch_cli.specs.declared.script.Next.{Next}
 use Rattle.switch_cli.specs.declared.script.Next.TheVariants as next
 

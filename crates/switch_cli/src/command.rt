@@ -1,8 +1,7 @@
 //! The call that a program makes: what the words ask for, from a source to a sink.
 ghost use Rattle.std.specs.Prelude.{◌≡◌, ◌↔◌, true, false, codes};
-ghost use Rattle.upi_io.specs.Faults.{Rose};
 ghost use Rattle.upi_io.specs.Words.{is_one_word};
-ghost use Rattle.switch_cli.specs.Run.{Ran, Completes};
+ghost use Rattle.switch_cli.specs.Run.{Runs};
 
 use crate::script::run_script;
 use std::alloc::Global;
@@ -18,15 +17,10 @@ use upi_io::{Sink, Source, Status, Words};
 /// where the source or the sink failed. `NoMemory` may come at any time.
 pub fn run<S: Source, K: Sink>(alloc: Global, words: &Words, source: &mut S, sink: &mut K) -> Status
     ensures usage { result ≡ Status.Usage ↔ (is_one_word (codes "script") words.now ≡ false) }
-    ensures nothing { result ≡ Status.Usage → (S.left source.new ≡ S.left source.old) × (K.taken sink.new ≡ K.taken sink.old) }
-    // What is written, and why it ends, is what the lines of the source call for.
-    ensures ran { is_one_word (codes "script") words.now ≡ true → Ran (S.left source.old) (K.taken sink.old) (K.taken sink.new) result }
-    // A fault comes only where that object failed, and all is done only where the source has ended.
-    ensures read { result ≡ Status.ReadFault → Rose (S.faults source.old) (S.faults source.new) }
-    ensures write { result ≡ Status.WriteFault → Rose (K.faults sink.old) (K.faults sink.new) }
-    ensures ended { result ≡ Status.Done → S.ended source.new ≡ true }
-    // Where neither failed, a source of a script is run to its end, or there was no memory.
-    ensures complete { is_one_word (codes "script") words.now ≡ true → (Rose (S.faults source.old) (S.faults source.new) → ⊥) → (Rose (K.faults sink.old) (K.faults sink.new) → ⊥) → Completes (S.left source.old) (K.taken sink.old) (K.taken sink.new) result }
+    ensures nothing { result ≡ Status.Usage → (source.new ≡ source.old) × (sink.new ≡ sink.old) }
+    // What is written and why it ends is what the lines of the source call for, and a script is done
+    // where nothing failed.
+    ensures script { is_one_word (codes "script") words.now ≡ true → Runs (S.left source.old) (K.taken sink.old) (K.taken sink.new) (S.faults source.old) (S.faults source.new) (K.faults sink.old) (K.faults sink.new) (S.ended source.new) result }
 {
     if !words.is_one_word("script") {
         return Status::Usage;

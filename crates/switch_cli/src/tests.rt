@@ -4,11 +4,11 @@ mod reasons;
 mod rows;
 
 use super::*;
-use reasons::{CALLS, FIRST, SETUP_LINES};
+use reasons::{CALLS, CLOSED_CALLS, FIRST, SENT_CALLS, SETUP_LINES};
 use rows::{OPENED, ROWS, SETUP};
 use std::alloc::Global;
 use std::test::Fail;
-use upi_base::Why;
+use upi_base::{Why, write_number};
 use upi_io::{MemSink, MemSource};
 
 const START: &str = "START 2024-01-01T05:30:00+05:30\n";
@@ -42,11 +42,12 @@ fn spell(out: &mut Vec<u8>, text: &str) -> Result<(), Fail> {
     Ok(())
 }
 
-// Two texts, one behind the other.
-fn joined(alloc: Global, first: &str, second: &str) -> Result<Vec<u8>, Fail> {
+// Texts, one behind the other.
+fn joined(alloc: Global, texts: &[&str]) -> Result<Vec<u8>, Fail> {
     let mut out = Vec::new(alloc);
-    spell(&mut out, first)?;
-    spell(&mut out, second)?;
+    for text in texts {
+        spell(&mut out, text)?;
+    }
     Ok(out)
 }
 
@@ -65,8 +66,18 @@ const WHOLE: Cut = Cut {
     bad_write: 0,
 };
 
-// How a run over memory ends, and what it writes.
-fn ran(alloc: Global, input: &[u8], cut: Cut) -> Result<(Status, Vec<u8>), Fail> {
+const PIECES: Cut = Cut { piece: 50, ..WHOLE };
+
+// How a run ends, what it writes, and how many reads and writes failed.
+#[derive(Drop)]
+struct Ending {
+    status: Status,
+    text: Vec<u8>,
+    failed: u64,
+}
+
+// A run over memory.
+fn ran(alloc: Global, input: &[u8], cut: Cut) -> Result<Ending, Fail> {
     let mut list = Vec::new(alloc);
     list.push(String::from_str(alloc, "script")?)?;
     let bad_reads = Vec::from_slice(alloc, &[cut.bad_read])?;
@@ -75,50 +86,140 @@ fn ran(alloc: Global, input: &[u8], cut: Cut) -> Result<(Status, Vec<u8>), Fail>
     let mut source = MemSource::new(Vec::from_slice(alloc, input)?, piece, bad_reads);
     let mut sink = MemSink::new(alloc, 100_000, piece, bad_writes)?;
     let status = run(alloc, &Words::of(list), &mut source, &mut sink);
-    Ok((status, Vec::from_slice(alloc, sink.taken())?))
+    Ok(Ending {
+        status,
+        text: Vec::from_slice(alloc, sink.taken())?,
+        failed: source.faults().saturating_add(sink.faults()),
+    })
+}
+
+// How many bytes are written for the first line of an input, for the first two, and so on, and for none.
+// A line that is no text is refused in each part.
+fn line_ends(alloc: Global, input: &[u8]) -> Result<Vec<usize>, Fail> {
+    let mut out = Vec::new(alloc);
+    let mut before = Vec::new(alloc);
+    out.push(0)?;
+    for &c in input {
+        before.push(c)?;
+        if c == b'\n' {
+            let mut front = Vec::from_slice(alloc, &before)?;
+            front.push(b'\xff')?;
+            out.push(ran(alloc, &front, WHOLE)?.text.len())?;
+        }
+    }
+    Ok(out)
+}
+
+// Lets each read fail in turn, and then none. Where one fails, what the lines before it write is written,
+// and no part of another; where none does, all is as ever. Answers the first read of which this isn't so.
+fn read_not_told(alloc: Global, input: &[u8], whole: &Ending) -> Result<Option<u64>, Fail> {
+    let ends = line_ends(alloc, input)?;
+    for bad_read in 1..1000 {
+        let ending = ran(alloc, input, Cut { bad_read, ..PIECES })?;
+        let is_right = if ending.failed == 0 {
+            bad_read > 1 && ending.status == whole.status && ending.text == whole.text
+        } else {
+            ending.status == Status::ReadFault
+                && whole.text.starts_with(&ending.text)
+                && ends.contains(&ending.text.len())
+        };
+        if !is_right {
+            return Ok(Some(bad_read));
+        }
+        if ending.failed == 0 {
+            return Ok(None);
+        }
+    }
+    Ok(Some(1000))
+}
+
+// Lets each write fail in turn, and then none. Where one fails, what went out before is written, and not
+// all; where none does, all is as ever. Answers the first write of which this isn't so.
+fn write_not_told(alloc: Global, input: &[u8], whole: &Ending) -> Result<Option<u64>, Fail> {
+    for bad_write in 1..1000 {
+        let ending = ran(
+            alloc,
+            input,
+            Cut {
+                bad_write,
+                ..PIECES
+            },
+        )?;
+        let is_right = if ending.failed == 0 {
+            (bad_write > 1 || whole.text.is_empty())
+                && ending.status == whole.status
+                && ending.text == whole.text
+        } else {
+            ending.status == Status::WriteFault
+                && whole.text.starts_with(&ending.text)
+                && ending.text.len() < whole.text.len()
+                && (bad_write > 1 || ending.text.is_empty())
+        };
+        if !is_right {
+            return Ok(Some(bad_write));
+        }
+        if ending.failed == 0 {
+            return Ok(None);
+        }
+    }
+    Ok(Some(1000))
+}
+
+// The first read and the first write whose failure isn't told as it must be, if there are any.
+fn faults_not_told(alloc: Global, input: &[u8]) -> Result<(Option<u64>, Option<u64>), Fail> {
+    let whole = ran(alloc, input, WHOLE)?;
+    Ok((
+        read_not_told(alloc, input, &whole)?,
+        write_not_told(alloc, input, &whole)?,
+    ))
 }
 
 #[test]
 fn scripts_write_their_rows(rt: HostRuntime) -> Result<(), Fail> {
     let alloc = rt.alloc();
     for (name, input, output) in ROWS {
-        let input = joined(alloc, SETUP, input)?;
-        let output = joined(alloc, SETUP, output)?;
+        let input = joined(alloc, &[SETUP, input])?;
+        let output = joined(alloc, &[SETUP, output])?;
         for piece in [4096, 7, 1] {
-            let (status, text) = ran(alloc, &input, Cut { piece, ..WHOLE })?;
-            assert_eq!(rt; text.as_slice(), output.as_slice(), "{name}");
-            assert_eq!(rt; status, Status::Done, "{name}");
+            let ending = ran(alloc, &input, Cut { piece, ..WHOLE })?;
+            assert_eq!(rt; ending.text.as_slice(), output.as_slice(), "{name}");
+            assert_eq!(rt; ending.status, Status::Done, "{name}");
         }
+        assert_eq!(rt; faults_not_told(alloc, &input)?, (None, None), "{name}");
     }
     Ok(())
 }
 
 // How a run ends, and whether what it wrote is this text.
 fn ran_to(alloc: Global, input: &[u8], output: &[u8]) -> Result<(Status, bool), Fail> {
-    let (status, text) = ran(alloc, input, WHOLE)?;
-    Ok((status, text.as_slice() == output))
+    let ending = ran(alloc, input, WHOLE)?;
+    Ok((ending.status, ending.text.as_slice() == output))
 }
 
 // Where two reasons hold for a line, the first counts. What the lines before it write is written.
 #[test]
 fn lines_are_refused_for_their_first_reason(rt: HostRuntime) -> Result<(), Fail> {
     let alloc = rt.alloc();
+    let closed = "E 1 0 1704067200 CLOSE = CLOSED\n";
     let parts = [
-        ("# nothing\n\n", "", FIRST.as_slice()),
-        (SETUP, SETUP, SETUP_LINES.as_slice()),
-        (OPENED, OPENED, CALLS.as_slice()),
+        ("", "# nothing\n\n", "", FIRST.as_slice()),
+        (SETUP, "", "", SETUP_LINES.as_slice()),
+        (OPENED, "", "", CALLS.as_slice()),
+        (OPENED, "CLOSE\n", closed, CLOSED_CALLS.as_slice()),
     ];
-    for (before, output, lines) in parts {
-        let number = before.split('\n').count() as u64;
+    for (before, more, written, lines) in parts {
+        let front = joined(alloc, &[before, more])?;
+        let output = joined(alloc, &[before, written])?;
+        let number = front.split(|c| *c == b'\n').count() as u64;
         for &(text, field, why) in lines {
-            let input = joined(alloc, before, text)?;
-            let ended = ran_to(alloc, &input, output.as_bytes())?;
+            let input = joined(alloc, &[before, more, text])?;
             let bad = Status::BadLine {
                 line: number,
                 field,
                 why,
             };
-            assert_eq!(rt; ended, (bad, true), "{text}");
+            assert_eq!(rt; ran_to(alloc, &input, &output)?, (bad, true), "{text}");
+            assert_eq!(rt; faults_not_told(alloc, &input)?, (None, None), "{text}");
         }
     }
     Ok(())
@@ -138,6 +239,7 @@ fn bytes_that_are_no_text(rt: HostRuntime) -> Result<(), Fail> {
             why: Why::Utf8,
         };
         assert_eq!(rt; ran_to(alloc, &input, output.as_bytes())?, (bad, true));
+        assert_eq!(rt; faults_not_told(alloc, &input)?, (None, None));
     }
     Ok(())
 }
@@ -149,6 +251,7 @@ fn an_input_that_ends_too_soon(rt: HostRuntime) -> Result<(), Fail> {
         ("", "", 1, 0, Why::End),
         ("\n# nothing", "", 3, 0, Why::End),
         ("START 2024-01-01T00:00:00Z\n", START, 2, 0, Why::End),
+        (SETUP, SETUP, 10, 0, Why::End),
         (
             "START 1970-01-01T00:00:00.5Z\r\nBANK AAAA\r\nPS",
             EARLY,
@@ -164,34 +267,72 @@ fn an_input_that_ends_too_soon(rt: HostRuntime) -> Result<(), Fail> {
             (bad, true),
             "{input}"
         );
+        assert_eq!(rt;
+            faults_not_told(alloc, input.as_bytes())?,
+            (None, None),
+            "{input}"
+        );
     }
     Ok(())
 }
 
-// A bank's line.
-fn push_bank(out: &mut Vec<u8>, number: u8) -> Result<(), Fail> {
-    out.extend_from_slice(b"BANK AA")?;
-    out.push(b'A' + number / 26 % 26)?;
-    out.push(b'A' + number % 26)?;
+// A line that ends with a name of its own for each number: two letters, the first of them `a` or `A`.
+fn push_named(out: &mut Vec<u8>, start: &str, letter: u8, number: u8) -> Result<(), Fail> {
+    out.extend_from_slice(start.as_bytes())?;
+    out.push(letter.saturating_add(number / 26))?;
+    out.push(letter.saturating_add(number % 26))?;
     out.push(b'\n')?;
     Ok(())
 }
 
+// The next name is one too many then, and a name that was given before is refused for that.
 #[test]
-fn at_most_64_banks(rt: HostRuntime) -> Result<(), Fail> {
+fn at_most_64_banks_and_64_psps(rt: HostRuntime) -> Result<(), Fail> {
     let alloc = rt.alloc();
-    let mut output = Vec::from_slice(alloc, START.as_bytes())?;
-    for number in 0..64u8 {
-        push_bank(&mut output, number)?;
+    for (start, letter) in [("BANK AA", b'A'), ("PSP aa", b'a')] {
+        let mut output = Vec::from_slice(alloc, START.as_bytes())?;
+        for number in 0..64u8 {
+            push_named(&mut output, start, letter, number)?;
+        }
+        for (number, field, why) in [(64, 1, Why::Limit), (63, 2, Why::Twice)] {
+            let mut input = Vec::from_slice(alloc, &output)?;
+            push_named(&mut input, start, letter, number)?;
+            let bad = Status::BadLine {
+                line: 66,
+                field,
+                why,
+            };
+            assert_eq!(rt; ran_to(alloc, &input, &output)?, (bad, true), "{start}");
+        }
     }
-    let mut input = Vec::from_slice(alloc, &output)?;
-    push_bank(&mut input, 64)?;
-    let bad = Status::BadLine {
-        line: 66,
-        field: 1,
-        why: Why::Limit,
-    };
-    assert_eq!(rt; ran_to(alloc, &input, &output)?, (bad, true));
+    Ok(())
+}
+
+// Payments that are refused count too.
+#[test]
+fn at_most_100_payments(rt: HostRuntime) -> Result<(), Fail> {
+    let alloc = rt.alloc();
+    let mut before = joined(alloc, &[OPENED])?;
+    let mut output = joined(alloc, &[OPENED])?;
+    for place in 1..101u64 {
+        spell(&mut before, "SEND alpha %T1 30.00 zed@beta%\n")?;
+        output.extend_from_slice(b"E ")?;
+        write_number(place, &mut output)?;
+        spell(
+            &mut output,
+            " 0 1704067200 HEAR alpha %T1 30.00 zed@beta% = NO ADDR\n",
+        )?;
+    }
+    for (text, field, why) in SENT_CALLS {
+        let mut input = Vec::from_slice(alloc, &before)?;
+        spell(&mut input, text)?;
+        let bad = Status::BadLine {
+            line: 111,
+            field,
+            why,
+        };
+        assert_eq!(rt; ran_to(alloc, &input, &output)?, (bad, true), "{text}");
+    }
     Ok(())
 }
 
@@ -243,82 +384,6 @@ fn other_words_are_no_command(rt: HostRuntime) -> Result<(), Fail> {
     ];
     for words in rows {
         assert_eq!(rt; called(rt.alloc(), words)?, (Status::Usage, 0));
-    }
-    Ok(())
-}
-
-// Whether a text is a front of another, and ends with a line.
-fn is_front(text: &[u8], whole: &[u8]) -> (bool, bool) {
-    (
-        whole.starts_with(text),
-        text.is_empty() || text.ends_with(b"\n"),
-    )
-}
-
-// Each read fails in turn, and then none: the lines before it are written, and no part of another.
-#[test]
-fn reads_that_fail(rt: HostRuntime) -> Result<(), Fail> {
-    let alloc = rt.alloc();
-    for (name, input, _) in ROWS {
-        let input = joined(alloc, SETUP, input)?;
-        let (ended, whole) = ran(alloc, &input, WHOLE)?;
-        for bad_read in 1..1000 {
-            let cut = Cut {
-                piece: 50,
-                bad_read,
-                bad_write: 0,
-            };
-            let (status, text) = ran(alloc, &input, cut)?;
-            if status != Status::ReadFault {
-                assert_eq!(rt;
-                    (status, text.as_slice()),
-                    (ended, whole.as_slice()),
-                    "{name}"
-                );
-                assert!(rt; bad_read > 2, "{name}");
-                break;
-            }
-            assert_eq!(rt;
-                is_front(&text, &whole),
-                (true, true),
-                "{name}, read {bad_read}"
-            );
-            assert!(rt; bad_read > 1 || text.is_empty(), "{name}");
-        }
-    }
-    Ok(())
-}
-
-// Each write fails in turn, and then none: what went out before it is written.
-#[test]
-fn writes_that_fail(rt: HostRuntime) -> Result<(), Fail> {
-    let alloc = rt.alloc();
-    for (name, input, _) in ROWS {
-        let input = joined(alloc, SETUP, input)?;
-        let (ended, whole) = ran(alloc, &input, WHOLE)?;
-        for bad_write in 1..1000 {
-            let cut = Cut {
-                piece: 50,
-                bad_read: 0,
-                bad_write,
-            };
-            let (status, text) = ran(alloc, &input, cut)?;
-            if status != Status::WriteFault {
-                assert_eq!(rt;
-                    (status, text.as_slice()),
-                    (ended, whole.as_slice()),
-                    "{name}"
-                );
-                assert!(rt; bad_write > 2, "{name}");
-                break;
-            }
-            assert_eq!(rt;
-                is_front(&text, &whole).0,
-                true,
-                "{name}, write {bad_write}"
-            );
-            assert!(rt; bad_write > 1 || text.is_empty(), "{name}");
-        }
     }
     Ok(())
 }

@@ -1,9 +1,9 @@
 -- Lemmas on lists that every layer uses: beginnings, picks, places, sums.
-use Rattle.std.proofs.Common.{◌≡◌, ℕ, suc, ◌+◌, ◌≤◌, Bool, true, false, List, [], ◌∷◌, ◌++◌, length, map, Option, Some, None, refl, ap, sym, ◌∙◌, arith, append_assoc, length-append}
+use Rattle.std.proofs.Common.{◌≡◌, ℕ, suc, ◌+◌, ◌<◌, ◌≤◌, Bool, true, false, List, [], ◌∷◌, ◌++◌, length, get_or, take, map, Option, Some, None, refl, ap, sym, ◌∙◌, arith, append_assoc, length-append}
 use Rattle.std.specs.Prelude.{if◌then◌else◌}
 use Rattle.std.specs.Option.{option_or, option_and_then}
 use Rattle.std.specs.List.{AllByRecursion, sum_by, flat_map}
-use Rattle.std.proofs.lemmas.List.{append-nil}
+use Rattle.std.proofs.lemmas.List.{append-nil, take_more, map-append}
 use Rattle.std.proofs.lemmas.List.Sums.{sum_by-cons, sum_by-append}
 use Rattle.std.proofs.lemmas.List.Concat.{flat_map-cons}
 use mathlib.Core.List.{IsPrefix}
@@ -136,3 +136,14 @@ module _ {X Y : Type 0} (f : Y → ℕ) where
   sum_flat_map g [] = refl
   sum_flat_map g (x ∷ xs) =
       omega (arith, ap (sum_by f) (flat_map-cons g x xs), sum_by-append f (g x) (flat_map g xs), sum_flat_map g xs, sum_by-cons (λ (x : X). sum_by f (g x)) x xs)
+
+-- one element more of a front, as a loop over a list goes on
+module _ {X : Type 0} where
+  pub front_more : (xs : List X) (i : ℕ) (x : X) → i < length xs → x ≡ get_or xs i x → take (i + 1) xs ≡ take i xs ++ x ∷ []
+  front_more xs i x lt is = take_more xs i x lt ∙ ap (λ y. take i xs ++ y ∷ []) (sym is)
+
+  pub sum_more : (f : X → ℕ) (xs : List X) (i : ℕ) (x : X) → i < length xs → x ≡ get_or xs i x → sum_by f (take (i + 1) xs) ≡ sum_by f (take i xs) + f x
+  sum_more f xs i x lt is = ap (sum_by f) (front_more xs i x lt is) ∙ sum_push f (take i xs) x
+
+pub map_more : {X Y : Type 0} (f : X → Y) (xs : List X) (i : ℕ) (x : X) → i < length xs → x ≡ get_or xs i x → map f (take (i + 1) xs) ≡ map f (take i xs) ++ f x ∷ []
+map_more f xs i x lt is = ap (map f) (front_more xs i x lt is) ∙ map-append f (take i xs) (x ∷ [])

@@ -27,6 +27,10 @@ module _ {X : Type 0} where
   none_is None e = refl
   none_is (Some x) e = absurd cc
 
+  pub none_no : (o : Option X) → is_none o ≡ false → is_some o ≡ true
+  none_no None h = absurd cc
+  none_no (Some x) h = refl
+
   pub none_if : (o : Option X) → ((x : X) → o ≡ Some x → ⊥) → o ≡ None
   none_if None h = refl
   none_if (Some x) h = absurd (h x refl)

@@ -18,7 +18,7 @@ use Rattle.upi_base.specs.declared.fault.Why.{Why}
 use Rattle.upi_base.specs.Lists.{when}
 use Rattle.upi_base.specs.Money.{max_paise}
 use Rattle.upi_base.specs.Setup.{same_account, provider, names_bank, names_psp, account_in, listing_in, has_bank, has_psp, account_named, listing_at, setup_fault, accepts_from, is_setup, line_accounts, accounts, IsNamed, AcceptedAreSound, SetupsExtend, OpensWithin}
-use Rattle.upi_base.proofs.Options.{some_is, is_some_has, no_some, or_cases, or_stays, or_second, when_true}
+use Rattle.upi_base.proofs.Options.{some_is, is_some_has, no_some, none_no, or_cases, or_stays, or_second, when_true}
 use Rattle.upi_base.proofs.Lists.{pick-push}
 
 -- one line more
@@ -91,10 +91,6 @@ bank_stays S l code h = list_any-append (names_bank code) S (l ∷ []) ∙ or_tr
 pub not_false : (b : Bool) → not b ≡ false → b ≡ true
 not_false true h = refl
 not_false false h = absurd cc
-
-none_no : {X : Type 0} (o : Option X) → is_none o ≡ false → is_some o ≡ true
-none_no None h = absurd cc
-none_no (Some x) h = refl
 
 passes : {X : Type 0} (b : Bool) (w : X) (o : Option X) → (if b then Some w else o) ≡ None → (b ≡ false) × (o ≡ None)
 passes true w o h = absurd cc

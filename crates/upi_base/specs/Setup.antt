@@ -13,6 +13,7 @@ use Rattle.upi_base.specs.declared.fault.Why.TheVariants as why
 use Rattle.upi_base.specs.Lists.{when, pick}
 use Rattle.upi_base.specs.Money.{max_paise}
 
+-- both are one account: one bank, and one number there
 abbrev pub same_account : AccountRef → AccountRef → Bool
 same_account a b = bytes_eq a.bank b.bank && bytes_eq a.num b.num
 
@@ -21,26 +22,32 @@ abbrev pub provider : List ℕ → List ℕ
 provider [] = []
 provider (b ∷ bs) = if b == 64 then bs else provider bs
 
+-- the line gives a bank
 abbrev pub is_bank_line : SetupLine → Bool
 is_bank_line (line.Bank b) = true
 is_bank_line _ = false
 
+-- the line gives a PSP
 abbrev pub is_psp_line : SetupLine → Bool
 is_psp_line (line.Psp p) = true
 is_psp_line _ = false
 
+-- the line gives an account
 abbrev pub is_account_line : SetupLine → Bool
 is_account_line (line.Account ac opening no_debit no_credit) = true
 is_account_line _ = false
 
+-- the line gives an address
 abbrev pub is_address_line : SetupLine → Bool
 is_address_line (line.Address addr ac policy) = true
 is_address_line _ = false
 
+-- the line gives the bank of this code
 abbrev pub names_bank : List ℕ → SetupLine → Bool
 names_bank code (line.Bank b) = bytes_eq b code
 names_bank code _ = false
 
+-- the line gives the PSP of this name
 abbrev pub names_psp : List ℕ → SetupLine → Bool
 names_psp name (line.Psp p) = bytes_eq p name
 names_psp name _ = false
@@ -55,15 +62,19 @@ abbrev pub listing_in : List ℕ → SetupLine → Option Listing
 listing_in addr (line.Address given ac policy) = when (bytes_eq given addr) (record { ac = ac; policy = policy })
 listing_in addr _ = None
 
+-- a bank of this code was given
 abbrev pub has_bank : List SetupLine → List ℕ → Bool
 has_bank S code = list_any (names_bank code) S
 
+-- a PSP of this name was given
 abbrev pub has_psp : List SetupLine → List ℕ → Bool
 has_psp S name = list_any (names_psp name) S
 
+-- the account of this name, if it was given
 abbrev pub account_named : List SetupLine → AccountRef → Option Account
 account_named S ac = pick (account_in ac) S
 
+-- the account and the policy of an address, if it was given
 abbrev pub listing_at : List SetupLine → List ℕ → Option Listing
 listing_at S addr = pick (listing_in addr) S
 
@@ -71,18 +82,21 @@ listing_at S addr = pick (listing_in addr) S
 abbrev pub account_at : List SetupLine → List ℕ → Option Account
 account_at S addr = option_and_then (λ (l : Listing). account_named S l.ac) (listing_at S addr)
 
+-- why a bank is refused: its code was given, or there are 64 banks
 abbrev pub bank_fault : List SetupLine → List ℕ → Option Why
 bank_fault S code =
     if has_bank S code then Some why.Twice
     else if nat_le 64 (count_by is_bank_line S) then Some why.Limit
     else None
 
+-- why a PSP is refused: its name was given, or there are 64 PSPs
 abbrev pub psp_fault : List SetupLine → List ℕ → Option Why
 psp_fault S name =
     if has_psp S name then Some why.Twice
     else if nat_le 64 (count_by is_psp_line S) then Some why.Limit
     else None
 
+-- why an account is refused: its bank wasn't given, the account was, or there are 65,536 accounts
 abbrev pub account_fault : List SetupLine → AccountRef → Option Why
 account_fault S ac =
     if not (has_bank S ac.bank) then Some why.NoBank
@@ -90,6 +104,7 @@ account_fault S ac =
     else if nat_le 65_536 (count_by is_account_line S) then Some why.Limit
     else None
 
+-- why an address is refused: it was given, its PSP or its account wasn't, or there are 65,536 addresses
 abbrev pub address_fault : List SetupLine → List ℕ → AccountRef → Option Why
 address_fault S addr ac =
     if is_some (listing_at S addr) then Some why.Twice
@@ -134,8 +149,10 @@ pub record IsSound (S : List SetupLine) : Type 0 where
   pub psp_there : (addr : List ℕ) (l : Listing) → listing_at S addr ≡ Some l → has_psp S (provider addr) ≡ true
   pub bank_there : (ac : AccountRef) (a : Account) → account_named S ac ≡ Some a → has_bank S ac.bank ≡ true
   pub account_once : (ac : AccountRef) (a : Account) → account_named S ac ≡ Some a → count_by (λ (b : Account). same_account b.ac ac) (accounts S) ≡ 1
+  -- each account of the setup is the one that its name finds
   pub named : AllByRecursion (IsNamed S) (accounts S)
 
+-- a setup whose lines are all accepted is sound
 abbrev pub AcceptedAreSound : Type 0
 AcceptedAreSound = (S : List SetupLine) → is_setup S ≡ true → IsSound S
 

@@ -1,38 +1,48 @@
 //! Kinds, phases, codes, answers, outcomes and replies.
 
-/// What a payment is: a PAY, which the payer's PSP asks for, or a COLLECT, which the payee's PSP
-/// asks for (`Txn.type`).
+/// Which side asks for a payment (`Txn.type`).
 #[derive(Clone, Copy, Debug, PartialEq, Eq)]
 pub enum Kind {
+    /// PAY: the payer's PSP asks for it, and the payee's PSP is asked.
     Pay,
+    /// COLLECT: the payee's PSP asks for it, and the payer's PSP is asked.
     Collect,
 }
 
-/// A posting at a bank: the debit at the payer's account, the credit at the payee's, or the
-/// reversal of the debit.
+/// A posting at a bank.
 #[derive(Clone, Copy, Debug, PartialEq, Eq)]
 pub enum Leg {
+    /// Takes the amount from the payer's account.
     Debit,
+    /// Adds the amount to the payee's account.
     Credit,
+    /// Gives the payer's account back what the debit took.
     Reversal,
 }
 
-/// Where a transaction stands: it waits for the asked PSP, for the answer to its debit, for the
-/// answer to its credit, for its reversal, or for nothing any more.
+/// Where a transaction stands.
 #[derive(Clone, Copy, Debug, PartialEq, Eq)]
 pub enum Phase {
+    /// It waits for the asked PSP's yes or no.
     Asking,
+    /// It waits for the answer to its debit.
     Debiting,
+    /// Its debit was posted, and it waits for the answer to its credit.
     Crediting,
+    /// Its debit was late or its credit declined, and it waits for the answer to its reversal.
     Reversing,
+    /// It has an outcome.
     Ended,
 }
 
-/// How a model PSP answers for an address: yes, no, or not at all.
+/// How a model PSP answers the question to one of its addresses.
 #[derive(Clone, Copy, Debug, PartialEq, Eq)]
 pub enum Policy {
+    /// It approves the payment.
     Yes,
+    /// It declines the payment.
     No,
+    /// It sends no answer.
     Ask,
 }
 
@@ -43,19 +53,19 @@ pub enum Code {
     Format,
     /// The switch was closed.
     Closed,
-    /// The name was used for something else.
+    /// The transaction was opened with other terms, or decided by the other word.
     Dup,
     /// The sender may not send this.
     NotYours,
-    /// An address isn't in the directory.
+    /// An address isn't in the setup.
     Addr,
-    /// An account given isn't the directory's.
+    /// An account that is given isn't the setup's.
     Account,
     /// Payer and payee have one account.
     Same,
-    /// The amount is out of range, or isn't the transaction's.
+    /// The amount isn't 1 to 1,000,000,000 paise, or isn't the transaction's.
     Amt,
-    /// The shard has no room for a further transaction.
+    /// The shard of the transaction has opened 4,096, and has room for no more.
     Full,
     /// The transaction was never opened.
     NoTxn,
@@ -77,7 +87,7 @@ pub enum Code {
     NoDebit,
     /// The account takes no credits.
     NoCredit,
-    /// The balance would pass the cap.
+    /// The credit would lift the balance above 10^15 paise.
     Cap,
     /// The reversal arrived before the debit.
     Reversed,
@@ -88,7 +98,9 @@ pub enum Code {
 /// How a transaction ended.
 #[derive(Clone, Copy, Debug, PartialEq, Eq)]
 pub enum Outcome {
+    /// The debit and the credit were posted.
     Success,
+    /// The payment is off, for this reason; what its debit took goes back.
     Failure(Code),
     /// Approved without an answer to the credit.
     Deemed,
@@ -97,7 +109,9 @@ pub enum Outcome {
 /// What a bank answers to an order.
 #[derive(Clone, Copy, Debug, PartialEq, Eq)]
 pub enum Answer {
+    /// The leg moved its amount at the account.
     Posted,
+    /// The leg moved nothing, for this reason.
     Declined(Code),
 }
 

@@ -12,7 +12,7 @@ use std::alloc::Global;
 /// A call on the switch. Sent messages are numbered from 1 in the order of the history.
 #[derive(Drop, PartialEq)]
 pub enum Call {
-    /// A PSP sends something.
+    /// This PSP sends something.
     Hear { psp: PspName, input: Input },
     /// The message of a number is handed to its receiver.
     Deliver(u64),
@@ -46,7 +46,7 @@ impl Call {
 /// Close isn't among them, for it is for every shard at once.
 #[derive(Drop, PartialEq)]
 pub enum ShardCall {
-    /// A PSP sends something.
+    /// This PSP sends something.
     Hear { psp: PspName, input: Input },
     /// This message is handed to its receiver.
     Deliver(Sent),
@@ -76,10 +76,15 @@ impl ShardCall {
 /// An entry of the history: a call, its moment, its caller's number, the reply and what was sent.
 #[derive(Drop)]
 pub struct Entry {
+    /// What was asked of the switch.
     pub call: Call,
+    /// When, in seconds since 1970-01-01T00:00:00Z. Entries may come out of their order in time.
     pub at: Moment,
+    /// Who made the call: a number, 0 where a script did.
     pub caller: u64,
+    /// What the switch said.
     pub reply: Reply,
+    /// The messages that the call sent, in their order.
     pub sent: SentList,
 }
 
@@ -101,6 +106,8 @@ impl Entry {
 /// The answer to an accepted call: the reply, and the place of its entry, counted from 1.
 #[derive(Clone, Copy, Debug, PartialEq, Eq)]
 pub struct Done {
+    /// What the switch said.
     pub reply: Reply,
+    /// Where the entry stands in the history, the first being 1.
     pub place: u64,
 }

@@ -1,4 +1,4 @@
-// Want of memory, and why a line was refused.
+//! Want of memory, and why a line was refused.
 use std::alloc::{AllocError, AllocFailed};
 
 /// There was no memory.

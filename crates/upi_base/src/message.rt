@@ -14,8 +14,11 @@ use std::alloc::Global;
 /// The head of a message (`Head`): its name, who sends it and when. The version is always 1.0.
 #[derive(Clone, Drop, PartialEq, Eq)]
 pub struct Head {
+    /// `Head.msgId`: the name that its sender gave it.
     pub msg_id: MsgId,
+    /// `Head.orgId`: the member that sends it. No rule compares it with the PSP that is heard.
     pub org: OrgId,
+    /// `Head.ts`: the moment that its sender gives, in seconds since 1970-01-01T00:00:00Z.
     pub ts: Moment,
 }
 
@@ -65,16 +68,25 @@ fn copy_minutes(minutes: &Option<Minutes>) -> Option<Minutes>
 /// A payment that a PSP asks for (`ReqPay`).
 #[derive(Clone, Drop, PartialEq, Eq)]
 pub struct PayReq {
+    /// `Head`. RESPPAY, the outcome to the asking PSP, carries its `msgId`.
     pub head: Head,
+    /// `Txn.type`: whether the payer's or the payee's PSP asks.
     pub kind: Kind,
+    /// `Txn.id`: the transaction that it opens where no rule refuses it.
     pub txn: TxnId,
+    /// `Txn.note`: words for the asked PSP. No rule reads them.
     pub note: Option<Note>,
-    /// EXPIREAFTER; 30 minutes where it is absent. It has no effect on a PAY.
+    /// `Txn.Rules`, EXPIREAFTER: 1 to 64,800 minutes to answer a COLLECT, 30 where it is absent.
     pub expire: Option<Minutes>,
+    /// `Payer.addr`: who pays.
     pub payer: Addr,
+    /// `Payees.Payee[0].addr`: who is paid.
     pub payee: Addr,
+    /// `Payer.Amount.value`, in paise. Only 1 to 1,000,000,000 opens a transaction.
     pub amount: Paise,
+    /// `Payer.Ac`: where it is given, it has to be the account that the setup gives the payer.
     pub payer_ac: Option<AccountRef>,
+    /// `Payees.Payee[0].Ac`: where it is given, it has to be the setup's for the payee.
     pub payee_ac: Option<AccountRef>,
 }
 
@@ -101,12 +113,19 @@ impl PayReq {
 /// The asked PSP's yes or no (`RespAuthDetails`).
 #[derive(Clone, Drop, PartialEq, Eq)]
 pub struct AuthResp {
+    /// `Head`. No rule reads it.
     pub head: Head,
+    /// `Resp.reqMsgId`: the name of the question. No rule reads it.
     pub req_msg: MsgId,
+    /// `Txn.id`: the transaction that it decides.
     pub txn: TxnId,
+    /// `Resp.result`: SUCCESS for a yes, FAILURE for a no.
     pub yes: bool,
+    /// `Payer.Amount.value`, in paise. It has to be the transaction's.
     pub amount: Paise,
+    /// `Payer.Ac`: where it is given, it has to be the account that the setup gives the payer.
     pub payer_ac: Option<AccountRef>,
+    /// `Payees.Payee[0].Ac`: where it is given, it has to be the setup's for the payee.
     pub payee_ac: Option<AccountRef>,
 }
 
@@ -130,7 +149,9 @@ impl AuthResp {
 /// A question for the status of a transaction (`ReqChkTxn`).
 #[derive(Clone, Drop, PartialEq, Eq)]
 pub struct Chk {
+    /// `Head`. No rule reads it.
     pub head: Head,
+    /// `Txn.id`: the transaction whose status is asked for.
     pub txn: TxnId,
 }
 
@@ -149,8 +170,11 @@ impl Chk {
 /// The asked PSP's answer to the confirmation (`RespTxnConfirmation`).
 #[derive(Clone, Drop, PartialEq, Eq)]
 pub struct ConfResp {
+    /// `Head`. No rule reads it.
     pub head: Head,
+    /// `Resp.reqMsgId`: the name of the confirmation. No rule reads it.
     pub req_msg: MsgId,
+    /// `Txn.id`: the transaction whose outcome it was told.
     pub txn: TxnId,
 }
 
@@ -167,22 +191,31 @@ impl ConfResp {
     }
 }
 
-/// A message that a PSP may not send.
+/// A message that a PSP may not send, by the name of its root.
 #[derive(Clone, Copy, Debug, PartialEq, Eq)]
 pub enum Api {
+    /// `RespPay`: the answer to a payment.
     RespPay,
+    /// `ReqAuthDetails`: the question to the asked PSP.
     ReqAuthDetails,
+    /// `RespChkTxn`: the status of a transaction.
     RespChkTxn,
+    /// `ReqTxnConfirmation`: the outcome, told to the asked PSP.
     ReqTxnConfirmation,
 }
 
 /// A message that was read.
 #[derive(Drop, PartialEq)]
 pub enum Message {
+    /// `ReqPay`: the PSP asks for a payment.
     Pay(Boxed<PayReq>),
+    /// `RespAuthDetails`: the PSP says yes or no to a payment.
     AuthAnswer(Boxed<AuthResp>),
+    /// `ReqChkTxn`: the PSP asks how a transaction stands.
     Check(Chk),
+    /// `RespTxnConfirmation`: the PSP says that it was told an outcome.
     Confirmed(Boxed<ConfResp>),
+    /// What no PSP may send: the name of its root, and its `Head`. Nothing else of it is kept.
     Foreign { api: Api, head: Head },
 }
 
@@ -213,19 +246,28 @@ impl Message {
 /// What is wrong with a message that can't be read.
 #[derive(Clone, Copy, Debug, PartialEq, Eq)]
 pub enum MsgWhy {
+    /// It is no JSON.
     Json,
+    /// Its root isn't an object with one member, which has the name of a message.
     Root,
+    /// A member that it needs isn't there.
     Missing,
+    /// A member isn't the object, the list or the text that it should be.
     Kind,
+    /// A text is outside its grammar.
     Value,
+    /// A list has too few or too many items, or too few or too many of one name.
     Count,
+    /// A value that is given twice isn't the same both times.
     Differs,
 }
 
 /// A message that can't be read: where its first fault is, and which.
 #[derive(Clone, Drop, PartialEq, Eq)]
 pub struct BadMessage {
+    /// The members from the root to it, as in `ReqPay.Txn.id`; `-` for the whole text.
     pub path: PathText,
+    /// What is wrong there.
     pub why: MsgWhy,
 }
 
@@ -244,7 +286,9 @@ impl BadMessage {
 /// What a PSP sends: a message, or something that can't be read as one.
 #[derive(Drop, PartialEq)]
 pub enum Input {
+    /// It was read as this message.
     Good(Message),
+    /// It couldn't be read, for this fault.
     Bad(BadMessage),
 }
 

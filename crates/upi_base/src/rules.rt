@@ -30,7 +30,7 @@ fn is_psp(text: &[u8]) -> bool
     is_run::<Psp>(text) && text[0].is_ascii_lowercase()
 }
 
-/// Of names of transactions.
+/// The grammar of `TxnId`: letters, digits, `-`, `.` and `_`, at least one.
 #[derive(Clone, Copy)]
 pub struct TxnRule;
 
@@ -42,7 +42,7 @@ impl Rule for TxnRule {
     }
 }
 
-/// Of names of messages.
+/// The grammar of `MsgId`: letters, digits, `-`, `.` and `_`, at least one.
 #[derive(Clone, Copy)]
 pub struct MessageRule;
 
@@ -54,7 +54,7 @@ impl Rule for MessageRule {
     }
 }
 
-/// Of names of members.
+/// The grammar of `OrgId`: letters, digits, `-`, `.` and `_`, at least one.
 #[derive(Clone, Copy)]
 pub struct OrgRule;
 
@@ -66,7 +66,7 @@ impl Rule for OrgRule {
     }
 }
 
-/// Of names of PSPs.
+/// The grammar of `PspName`: lower-case letters and digits, the first a letter.
 #[derive(Clone, Copy)]
 pub struct PspRule;
 
@@ -78,7 +78,7 @@ impl Rule for PspRule {
     }
 }
 
-/// Of codes of banks.
+/// The grammar of `BankCode`: four upper-case letters.
 #[derive(Clone, Copy)]
 pub struct BankRule;
 
@@ -90,7 +90,7 @@ impl Rule for BankRule {
     }
 }
 
-/// Of numbers of accounts.
+/// The grammar of `AcNum`: letters and digits, at least one.
 #[derive(Clone, Copy)]
 pub struct AccountRule;
 
@@ -102,7 +102,7 @@ impl Rule for AccountRule {
     }
 }
 
-/// Of addresses.
+/// The grammar of `Addr`: 1 to 50 letters, digits, `-`, `.` or `_`, then `@`, then a `PspName`.
 #[derive(Clone, Copy)]
 pub struct AddressRule;
 
@@ -120,7 +120,7 @@ impl Rule for AddressRule {
     }
 }
 
-/// Of notes.
+/// The grammar of `Note`: UTF-8 without a byte below 32 and without byte 127, at least one byte.
 #[derive(Clone, Copy)]
 pub struct NoteRule;
 
@@ -132,7 +132,7 @@ impl Rule for NoteRule {
     }
 }
 
-/// Of paths.
+/// The grammar of `PathText`: `-`, or letters, digits, `.`, `[` and `]`, at least one.
 #[derive(Clone, Copy)]
 pub struct PathRule;
 

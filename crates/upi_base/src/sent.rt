@@ -14,8 +14,11 @@ use std::marker::Model;
 /// Who sends or receives a message.
 #[derive(Clone, Drop, PartialEq, Eq)]
 pub enum Party {
+    /// The switch itself.
     Switch,
+    /// The PSP of this name.
     Psp(PspName),
+    /// The bank of this code.
     Bank(BankCode),
 }
 
@@ -35,11 +38,17 @@ impl Party {
 /// What the asked PSP is asked (`ReqAuthDetails`).
 #[derive(Clone, Drop, PartialEq, Eq)]
 pub struct AuthQuestion {
+    /// The transaction to say yes or no to: the payment's `Txn.id`.
     pub txn: TxnId,
+    /// Whether the payer's or the payee's PSP asked: the payment's `Txn.type`.
     pub kind: Kind,
+    /// Who pays: the payment's `Payer.addr`.
     pub payer: Addr,
+    /// Who is paid: the payment's `Payees.Payee[0].addr`.
     pub payee: Addr,
+    /// The payment's `Payer.Amount.value`, 1 to 1,000,000,000 paise.
     pub amount: Paise,
+    /// The payment's `Txn.note`.
     pub note: Option<Note>,
 }
 
@@ -66,39 +75,58 @@ pub enum Body {
     ReqAuth(Boxed<AuthQuestion>),
     /// RESPAUTH: a model PSP's yes or no.
     RespAuth {
+        /// The transaction that it decides.
         txn: TxnId,
+        /// The amount of the question, 1 to 1,000,000,000 paise.
         amount: Paise,
+        /// Whether it approves the payment.
         yes: bool,
     },
     /// DEBIT, CREDIT or REVERSAL: to a bank.
     Order {
+        /// The transaction for which the bank posts.
         txn: TxnId,
+        /// Which posting it is to make.
         leg: Leg,
+        /// How much it is to move, 1 to 1,000,000,000 paise.
         amount: Paise,
+        /// The account at which it posts.
         ac: AccountRef,
+        /// The address of that account: the payee's for a credit, else the payer's.
         addr: Addr,
     },
     /// ANSWER: a bank's, to an order.
     LegAnswer {
+        /// The transaction of the order.
         txn: TxnId,
+        /// The posting that was ordered.
         leg: Leg,
+        /// Whether the bank made it.
         answer: Answer,
     },
     /// RESPPAY: to the asking PSP.
     Result {
+        /// The transaction that ended.
         txn: TxnId,
+        /// The payment's `Txn.type`.
         kind: Kind,
+        /// How it ended.
         outcome: Outcome,
+        /// The payment's `Head.msgId`.
         req_msg: MsgId,
     },
     /// CONFIRM: to the asked PSP.
     Confirm {
+        /// The transaction that ended.
         txn: TxnId,
+        /// The payment's `Txn.type`.
         kind: Kind,
+        /// How it ended.
         outcome: Outcome,
     },
     /// CONFIRMED: a model PSP's answer to the confirmation.
     Confirmed {
+        /// The transaction whose outcome it was told.
         txn: TxnId,
     },
 }
@@ -157,8 +185,11 @@ impl Body {
 /// A message that is sent.
 #[derive(Drop, PartialEq)]
 pub struct Sent {
+    /// Its sender.
     pub from: Party,
+    /// Its receiver.
     pub to: Party,
+    /// What it says.
     pub body: Body,
 }
 

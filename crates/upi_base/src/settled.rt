@@ -7,9 +7,13 @@ use crate::{BankCode, TxnId};
 /// A transaction as settlement and the report see it.
 #[derive(Clone, Drop, PartialEq, Eq)]
 pub struct TxnRow {
+    /// Its name (`Txn.id`).
     pub txn: TxnId,
+    /// The bank of the payer's account.
     pub payer_bank: BankCode,
+    /// The bank of the payee's account.
     pub payee_bank: BankCode,
+    /// What is paid, 1 to 1,000,000,000 paise.
     pub amount: Paise,
     /// The outcome, if there is one.
     pub outcome: Option<Outcome>,
@@ -29,24 +33,33 @@ pub enum Side {
 /// An item of a bank's settlement list.
 #[derive(Clone, Drop, PartialEq, Eq)]
 pub struct Item {
+    /// The transaction that is settled.
     pub txn: TxnId,
+    /// Whether the bank paid or received the amount.
     pub side: Side,
+    /// What was paid, 1 to 1,000,000,000 paise.
     pub amount: Paise,
 }
 
 /// A reconciliation item: a deemed payment whose credit didn't move, at the payee's bank.
 #[derive(Clone, Drop, PartialEq, Eq)]
 pub struct Recon {
+    /// The deemed transaction.
     pub txn: TxnId,
+    /// The payee's bank.
     pub bank: BankCode,
+    /// What its credit should have moved, 1 to 1,000,000,000 paise.
     pub amount: Paise,
 }
 
 /// What moved at a bank's accounts, in paise.
 #[derive(Clone, Copy, Debug, PartialEq, Eq)]
 pub struct Position {
+    /// What debits took from them.
     pub debits: u64,
+    /// What reversals gave back to them.
     pub reversals: u64,
+    /// What credits added to them.
     pub credits: u64,
 }
 

@@ -14,7 +14,9 @@ use std::marker::Model;
 /// An account: its bank and its number there. Written `AAAA/1`.
 #[derive(Clone, Drop, PartialEq, Eq, PartialOrd, Ord, Hash)]
 pub struct AccountRef {
+    /// The code of its bank: the first four letters of the IFSC in `Ac.Detail`.
     pub bank: BankCode,
+    /// Its number at that bank: the ACNUM in `Ac.Detail`.
     pub num: AcNum,
 }
 
@@ -61,17 +63,28 @@ pub fn write_account(ac: &AccountRef, out: &mut Vec<u8>) -> Result<(), NoMemory>
 /// A line of a setup.
 #[derive(Clone, Drop, PartialEq, Eq)]
 pub enum SetupLine {
+    /// BANK: the code of a bank.
     Bank(BankCode),
+    /// PSP: the name of a PSP.
     Psp(PspName),
+    /// ACCOUNT: an account of a bank that was given before.
     Account {
+        /// Its bank and its number there.
         ac: AccountRef,
+        /// What it holds at the start, 0 to 10^15 paise.
         opening: Paise,
+        /// NODEBIT: its bank declines debits.
         no_debit: bool,
+        /// NOCREDIT: its bank declines credits. A reversal isn't one.
         no_credit: bool,
     },
+    /// ADDR: an address of a PSP that was given before.
     Address {
+        /// A name, `@`, and the name of the PSP.
         addr: Addr,
+        /// The account that it stands for.
         ac: AccountRef,
+        /// How the model of that PSP answers for it.
         policy: Policy,
     },
 }
@@ -107,9 +120,13 @@ impl SetupLine {
 /// An account as a setup gives it: what it opens with, and which postings it takes.
 #[derive(Clone, Drop, PartialEq, Eq)]
 pub struct Account {
+    /// Its bank and its number there.
     pub ac: AccountRef,
+    /// What it holds at the start, 0 to 10^15 paise.
     pub opening: Paise,
+    /// Whether its bank declines debits (NODEBIT).
     pub no_debit: bool,
+    /// Whether its bank declines credits (NOCREDIT). A reversal isn't one.
     pub no_credit: bool,
 }
 
@@ -130,7 +147,9 @@ impl Account {
 /// What a setup gives for an address: its account, and how its model PSP answers.
 #[derive(Clone, Drop, PartialEq, Eq)]
 pub struct Listing {
+    /// The account that the address stands for.
     pub ac: AccountRef,
+    /// How the model of the address's PSP answers for it.
     pub policy: Policy,
 }
 
@@ -218,7 +237,9 @@ impl SetupLines {
 /// A setup: the moment at which it starts, and its lines.
 #[derive(Drop)]
 pub struct Setup {
+    /// START: in seconds since 1970-01-01T00:00:00Z, 0 to 250,000,000,000.
     pub start: Moment,
+    /// Its banks, PSPs, accounts and addresses, in the order in which they are given.
     pub lines: SetupLines,
 }
 

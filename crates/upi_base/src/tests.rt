@@ -44,32 +44,27 @@ fn addresses_notes_and_paths(rt: HostRuntime) {
 }
 
 #[test]
-fn copies(rt: HostRuntime) {
-    let (Some(one), Some(ten)) = (TxnId::read(b"T1"), TxnId::read(b"T10")) else {
-        return;
-    };
+fn copies(rt: HostRuntime) -> Result<(), Fail> {
+    let one = TxnId::read(b"T1").ok_or("a name")?;
+    let ten = TxnId::read(b"T10").ok_or("a name")?;
     assert!(rt; one.copy() == one);
     assert!(rt; one != ten);
     assert!(rt; one < ten);
     assert!(rt; ten.bytes() == b"T10".as_slice());
+    Ok(())
 }
 
 #[test]
 fn copies_of_what_was_heard(rt: HostRuntime) -> Result<(), Fail> {
-    let (Some(msg_id), Some(org), Some(txn), Some(psp), Some(ts)) = (
-        MsgId::read(b"M1"),
-        OrgId::read(b"alpha"),
-        TxnId::read(b"T1"),
-        PspName::read(b"alpha"),
-        Moment::of(0),
-    ) else {
-        assert!(rt; false);
-        return Ok(());
-    };
+    let msg_id = MsgId::read(b"M1").ok_or("a name")?;
     let req_msg = msg_id.copy();
+    let org = OrgId::read(b"alpha").ok_or("a member")?;
+    let ts = Moment::of(0).ok_or("a moment")?;
     let head = Head { msg_id, org, ts };
+    let txn = TxnId::read(b"T1").ok_or("a name")?;
     let answer = ConfResp { head, req_msg, txn };
     let message = Message::Confirmed(Boxed::new(rt.alloc(), answer)?);
+    let psp = PspName::read(b"alpha").ok_or("a PSP")?;
     let input = Input::Good(message);
     let call = Call::Hear { psp, input };
     assert!(rt; call.copy(rt.alloc())? == call);
@@ -165,10 +160,7 @@ fn written_moments(rt: HostRuntime) -> Result<(), Fail> {
     ];
     for (second, text) in rows {
         let mut out = Vec::new(rt.alloc());
-        match Moment::of(second) {
-            Some(moment) => moment.write(&mut out)?,
-            None => {}
-        }
+        Moment::of(second).ok_or("a moment")?.write(&mut out)?;
         assert_eq!(rt; out.as_slice(), text);
     }
     Ok(())
@@ -180,10 +172,8 @@ fn accounts_and_shards(rt: HostRuntime) -> Result<(), Fail> {
     assert!(rt; AccountRef::read(b"AAAA/").is_none());
     assert!(rt; AccountRef::read(b"AAA/11").is_none());
     assert!(rt; AccountRef::read(b"AAAA-1").is_none());
-    let (Some(ac), Some(txn)) = (AccountRef::read(b"AAAA/1"), TxnId::read(b"T1")) else {
-        assert!(rt; false);
-        return Ok(());
-    };
+    let ac = AccountRef::read(b"AAAA/1").ok_or("an account")?;
+    let txn = TxnId::read(b"T1").ok_or("a name")?;
     let mut out = Vec::new(rt.alloc());
     write_account(&ac, &mut out)?;
     assert_eq!(rt; out.as_slice(), b"AAAA/1".as_slice());
@@ -194,10 +184,7 @@ fn accounts_and_shards(rt: HostRuntime) -> Result<(), Fail> {
 
 #[test]
 fn a_bank_twice(rt: HostRuntime) -> Result<(), Fail> {
-    let Some(code) = BankCode::read(b"AAAA") else {
-        return Ok(());
-    };
-    let line = SetupLine::Bank(code);
+    let line = SetupLine::Bank(BankCode::read(b"AAAA").ok_or("a code")?);
     let mut lines = SetupLines::new(rt.alloc());
     assert!(rt; setup_fault(lines.items(), &line).is_none());
     lines.push(line.copy())?;

@@ -42,7 +42,7 @@ impl<R: Rule, const N: usize> Model for Text<R, N> {
 }
 
 impl<R: Rule, const N: usize> Text<R, N> {
-    /// The text, if the rule allows it.
+    /// The text, if it has at most `N` bytes and the rule allows it.
     pub fn read(text: &[u8]) -> Option<Text<R, N>>
         requires { N < 256 }
         ensures found { MatchOption result (fits N R.allows text.now ≡ false)

@@ -255,8 +255,8 @@ impl LineReader {
 
     /// Reads the next line into `line`, whose former bytes go.
     ///
-    /// `TooLong` comes exactly where the line has more than 65,536 bytes before its LF, a CR counted,
-    /// and `TooMany` exactly where line 16,777,217 begins. `ReadFault` comes only where the source
+    /// `TooLong` comes only where the line has more than 65,536 bytes before its LF, a CR counted, and
+    /// `TooMany` only where line 16,777,217 begins; there no line comes. `ReadFault` comes only where the source
     /// failed. After a fault the same fault is answered for good, and nothing is read. Of a source
     /// that doesn't tell what it has left, the bytes of a line aren't promised.
     pub fn next<S: Source>(&mut self, source: &mut S, line: &mut Vec<u8>) -> Result<Line, LineFault>

@@ -25,7 +25,7 @@ use Rattle.upi_laws.specs.declared.places.Opening.{Opening}
 use Rattle.upi_laws.specs.History.{is_closed, event_of}
 use Rattle.upi_laws.specs.Places.{asking, agrees, one_account, has_id, in_shard, refusal, opens_said, opens_on, opens, opened, if_of, opening}
 use Rattle.upi_laws.specs.Laws.{OpeningsAreFound, OpeningIsNamed, OpeningIsFirst, IsAllowed, OpeningsAreAllowed, ShardsHaveRoom, OpeningsHaveRoom}
-use Rattle.upi_base.proofs.Options.{or_cases, guarded}
+use Rattle.upi_base.proofs.Options.{none_no, or_cases, guarded}
 use Rattle.upi_base.proofs.Setups.{not_false}
 use Rattle.upi_laws.proofs.Stays.{opening_more, opening_stays_one}
 
@@ -72,10 +72,6 @@ pub or_false : (a b : Bool) → (a || b) ≡ false → (a ≡ false) × (b ≡ f
 or_false true b e = absurd cc
 or_false false b e = (refl, e)
 
-none_false : {X : Type 0} (o : Option X) → is_none o ≡ false → is_some o ≡ true
-none_false None e = absurd cc
-none_false (Some x) e = refl
-
 amount_within : (n : ℕ) → ((n == 0) || nat_lt 1_000_000_000 n) ≡ false → (1 ≤ n) × (n ≤ 1_000_000_000)
 amount_within n e = let p = or_false (n == 0) (nat_lt 1_000_000_000 n) e in (above n p.0, below n p.1)
   where
@@ -112,8 +108,8 @@ passes S openings psp r e =
     let n = amount_within r.amount f.0 in
     record {
       its_own = not_false (bytes_eq (asking r) psp) a.0;
-      payer_known = none_false (account_at S r.payer) known.0;
-      payee_known = none_false (account_at S r.payee) known.1;
+      payer_known = none_no (account_at S r.payer) known.0;
+      payee_known = none_no (account_at S r.payee) known.1;
       apart = d.0;
       least = n.0;
       most = n.1;

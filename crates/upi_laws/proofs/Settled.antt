@@ -23,7 +23,7 @@ use Rattle.upi_laws.specs.Postings.{is_posted, posted_at, answer, amount_of, mov
 use Rattle.upi_laws.specs.Settlement.{bank_of, bank_at, is_settled, is_deemed, items_of, settle, received_in, paid_in, net, unmatched, recon, position, banks}
 use Rattle.upi_laws.specs.Legal.{Legal}
 use Rattle.upi_laws.specs.Laws.{IsAllowed}
-use Rattle.upi_laws.specs.Sound.{MovedAs, items_on, AllSettled, nets, opened_with, held, items_at, BankBalances, BankNets, JustClosed, LegalClosesSound, PrefixSound, LegalIsSound}
+use Rattle.upi_laws.specs.Sound.{MovedAs, items_on, AllHaveEnded, nets, opened_with, held, items_at, BankBalances, BankNets, JustClosed, LegalClosesSound, PrefixSound, LegalIsSound}
 use Rattle.upi_base.proofs.Lists.{sum_add, sum_same, sum_none, sum_all, sum_flat_map}
 use Rattle.upi_laws.proofs.Facts.{outcome_stays}
 use Rattle.upi_laws.proofs.Openings.{openings_are_found, openings_are_allowed, opening_is_named}
@@ -115,8 +115,8 @@ as_moved outcome.Deemed d c r n taken given returned items m t g b i =
     credit true g i = inl (g, i)
     credit false g i = inr (g, i)
 
-all_settled : (S : List SetupLine) (P : List Entry) → Legal S P → is_closed P ≡ true → AllSettled S P
-all_settled S P legal shut t o begun =
+all_have_ended : (S : List SetupLine) (P : List Entry) → Legal S P → is_closed P ≡ true → AllHaveEnded S P
+all_have_ended S P legal shut t o begun =
     let x = closed_have_outcomes S t P o shut begun in
     record {
       ends = x.0;
@@ -336,7 +336,7 @@ pub legal_closes_sound : LegalClosesSound
 legal_closes_sound S P setup legal j =
     let shut = just_closed P j in
     record {
-      all_settled = all_settled S P legal shut;
+      all_have_ended = all_have_ended S P legal shut;
       nets_balance = record { nets_even = nets_even S P setup; items_flight = items_fly S P legal shut };
       bank_balances = all_true (BankBalances S P) (λ b. bank_balances S P b setup legal shut) (banks S);
       bank_nets = all_true (BankNets S P) (λ b. bank_nets S P b legal shut) (banks S);

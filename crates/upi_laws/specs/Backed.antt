@@ -59,6 +59,7 @@ word_of policy.Yes = Some true
 word_of policy.No = Some false
 word_of policy.Ask = None
 
+-- the word that a model PSP gives for an address, if it does
 abbrev pub word_at : Option Listing → Option Bool
 word_at l = option_and_then (λ (l : Listing). word_of l.policy) l
 
@@ -81,6 +82,7 @@ OrderPlaced S h t leg.Reversal = is_some (cause S t h) ≡ true
 pub record IsOrder (S : List SetupLine) (h : List Entry) (from to : Party) (t : List ℕ) (l : Leg) (amount : ℕ) (ac : AccountRef) (addr : List ℕ) : Type 0 where
   pub o : Opening
   pub begun : opening S t h ≡ Some o
+  -- the account at which the leg is posted
   pub a : Account
   pub held : account_at S (posted_at l o.terms) ≡ Some a
   pub sender : from ≡ party.Switch
@@ -117,6 +119,7 @@ pub record IsConfirmed (S : List SetupLine) (h : List Entry) (from to : Party) (
   pub receiver : to ≡ party.Switch
   pub told : is_some (outcome_of S t h) ≡ true
 
+-- what stands behind a message, by its body
 abbrev pub BackedBy : List SetupLine → List Entry → Party → Party → Body → Type 0
 BackedBy S h from to (body.ReqAuth q) = IsQuestion S h from to q
 BackedBy S h from to (body.RespAuth t amount word) = IsModelAnswer S h from to t amount word
@@ -130,6 +133,7 @@ BackedBy S h from to (body.Confirmed t) = IsConfirmed S h from to t
 abbrev pub Backed : List SetupLine → List Entry → Sent → Type 0
 Backed S h s = BackedBy S h s.from s.to s.body
 
+-- each of these messages is backed by the history
 abbrev pub AllBacked : List SetupLine → List Entry → List Sent → Type 0
 AllBacked S h messages = AllByRecursion (λ (s : Sent). Backed S h s) messages
 
@@ -169,10 +173,12 @@ AllTell t stands messages = AllByRecursion (λ (s : Sent). (x : Outcome) → out
 -- What an entry tells of the transaction's outcome: what then stands, be it an outcome or none. A check brings no outcome.
 pub record EntryTells (S : List SetupLine) (t : List ℕ) (before : List Entry) (e : Entry) : Type 0 where
   pub checked : IsOfCheck e.reply (event_of before e.call)
+  -- a status is also what stood before the entry
   pub stood : (x : Option Outcome) → status_in t e.reply (event_of before e.call) ≡ Some x → x ≡ outcome_of S t before
   pub status : (x : Option Outcome) → status_in t e.reply (event_of before e.call) ≡ Some x → x ≡ outcome_of S t (e ∷ before)
   pub messages : AllTell t (outcome_of S t (e ∷ before)) e.sent
 
+-- what each entry of a legal history tells of an outcome is the outcome that then stands
 abbrev pub OutcomeTold : Type 0
 OutcomeTold = (S : List SetupLine) (t : List ℕ) (later : List Entry) (e : Entry) (before : List Entry) → Legal S (later ++ e ∷ before) → EntryTells S t before e
 
@@ -217,12 +223,15 @@ pub record LegsAreAnswered (S : List SetupLine) (t : List ℕ) (h : List Entry) 
   pub debited : (d : LegEnd) → debit S t h ≡ Some d → EndAnswered (answer S h t leg.Debit) d
   pub credited : (d : LegEnd) → credit S t h ≡ Some d → EndAnswered (answer S h t leg.Credit) d
   pub reversed : (k : ℕ) → reversal S t h ≡ Some k → is_some (answer S h t leg.Reversal) ≡ true
+  -- where a Close ended the debit, the reversal was answered
   pub cut : debit S t h ≡ Some ended.Close → is_some (answer S h t leg.Reversal) ≡ true
 
+-- in a legal history each end that names an answer names the leg's, and each answer stands on its leg's place
 abbrev pub AllLegsAreAnswered : Type 0
 AllLegsAreAnswered = (S : List SetupLine) (t : List ℕ) (h : List Entry) → Legal S h → LegsAreAnswered S t h
 
--- Which statuses and messages on a transaction an entry has: at and behind the place at which the outcome comes each of them carries it, which is the outcome for good. Before that place each status is that there is none, and no message tells one.
+-- At and behind the place at which the outcome comes each status and message of the entry on the transaction carries it, for good.
+-- Before that place each status is PENDING, and no message tells an outcome.
 pub record OutcomeCarried (S : List SetupLine) (t : List ℕ) (later : List Entry) (e : Entry) (before : List Entry) : Type 0 where
   pub status_carries : (x : Outcome) (y : Option Outcome) → outcome_of S t (e ∷ before) ≡ Some x → status_in t e.reply (event_of before e.call) ≡ Some y → y ≡ Some x
   pub messages_carry : (x : Outcome) → outcome_of S t (e ∷ before) ≡ Some x → AllByRecursion (λ (s : Sent). (y : Outcome) → outcome_in t s.body ≡ Some y → y ≡ x) e.sent
@@ -230,5 +239,6 @@ pub record OutcomeCarried (S : List SetupLine) (t : List ℕ) (later : List Entr
   pub status_pends : (y : Option Outcome) → outcome_of S t (e ∷ before) ≡ None → status_in t e.reply (event_of before e.call) ≡ Some y → y ≡ None
   pub none_tell : outcome_of S t (e ∷ before) ≡ None → AllByRecursion (λ (s : Sent). outcome_in t s.body ≡ None) e.sent
 
+-- so each entry of a legal history carries the outcome of each transaction
 abbrev pub OutcomesAreCarried : Type 0
 OutcomesAreCarried = (S : List SetupLine) (t : List ℕ) (later : List Entry) (e : Entry) (before : List Entry) → Legal S (later ++ e ∷ before) → OutcomeCarried S t later e before

@@ -40,6 +40,7 @@ confirms t s = confirms_in t s.body
     confirms_in t (body.Confirm t' kind outcome) = bytes_eq t' t
     confirms_in t _ = false
 
+-- the moment of the entry, where it sent such a message
 abbrev pub sends : (Sent → Bool) → Entry → Option ℕ
 sends fits e = when (list_any fits e.sent) e.at
 
@@ -47,15 +48,17 @@ sends fits e = when (list_any fits e.sent) e.at
 abbrev pub last_sent : (Sent → Bool) → List Entry → Option ℕ
 last_sent fits h = last (sends fits) h
 
--- the asked PSP says that it was confirmed
+-- the asked PSP says that it was told
 abbrev pub acknowledges_said : Opening → List ℕ → Said → Bool
 acknowledges_said o p (said.Confirmed t) = bytes_eq t o.terms.txn && bytes_eq p (asked o.terms)
 acknowledges_said o p _ = false
 
+-- the switch hears from the asked PSP that it was told
 abbrev pub acknowledges_on : Opening → Event → Bool
 acknowledges_on o (event.Heard p what) = acknowledges_said o p what
 acknowledges_on o _ = false
 
+-- the moment at which an event acknowledges an outcome that stands, also behind a Close
 abbrev pub acknowledges : Option Opening → Option Outcome → Event → ℕ → Option ℕ
 acknowledges None x e now = None
 acknowledges (Some o) None e now = None
@@ -65,6 +68,7 @@ acknowledges (Some o) (Some x) e now = when (acknowledges_on o e) now
 abbrev pub acknowledged : List SetupLine → List ℕ → List Entry → Option ℕ
 acknowledged S t h = first (λ before e now. acknowledges (opening S t before) (outcome_of S t before) e now) h
 
+-- 30 seconds after a moment, if there is one
 abbrev pub thirty_after : Option ℕ → Option ℕ
 thirty_after at = option_map (λ (k : ℕ). k + 30) at
 
@@ -72,16 +76,18 @@ thirty_after at = option_map (λ (k : ℕ). k + 30) at
 abbrev pub due_confirm : ℕ → Option ℕ → Option ℕ → Option ℕ
 due_confirm count last acknowledged = if nat_lt count 4 && is_none acknowledged then thirty_after last else None
 
--- after the answer: the debit, the credit, or the reversal that is awaited
+-- after the decision: when the debit, the credit or the reversal that is awaited is due
 abbrev pub due_leg : Option Decision → Option LegEnd → Option Code → Option ℕ → Option ℕ
 due_leg a d (Some why) returned = thirty_after returned
 due_leg a None None returned = due_debit a
 due_leg a (Some d) None returned = due_credit (Some d)
 
+-- before the outcome: when the answer is due, or what is awaited after it
 abbrev pub due_open : Opening → Option Decision → Option LegEnd → Option Code → Option ℕ → Option ℕ
 due_open o None d why returned = Some (due_answer o)
 due_open o (Some a) d why returned = due_leg (Some a) d why returned
 
+-- without an opening never; after the outcome when CONFIRM is due again; else when what is awaited is due
 abbrev pub due_by : Option Opening → Option Outcome → Option Decision → Option LegEnd → Option Code → Option ℕ → Option ℕ → Option ℕ
 due_by None x a d why returned confirmed = None
 due_by (Some o) (Some x) a d why returned confirmed = confirmed
@@ -94,9 +100,11 @@ due S t h =
     else due_by (opening S t h) (outcome_of S t h) (decision S t h) (debit S t h) (cause_by (debit S t h) (credit S t h)) (last_sent (orders t leg.Reversal) h)
     (due_confirm (count_by (confirms t) (sent h)) (last_sent (confirms t) h) (acknowledged S t h))
 
+-- there is a due moment, and it is not after now
 abbrev pub passed : ℕ → Option ℕ → Bool
 passed now None = false
 passed now (Some k) = nat_le k now
 
+-- the transaction is due at this moment: its due moment is not after it
 abbrev pub is_due : List SetupLine → List ℕ → List Entry → ℕ → Bool
 is_due S t h now = passed now (due S t h)

@@ -25,17 +25,20 @@ abbrev pub sent : List Entry → List Sent
 sent [] = []
 sent (e ∷ before) = sent before ++ e.sent
 
--- message n, counted from 1
+-- message n of a list, counted from 1
 abbrev pub numbered : List Sent → ℕ → Option Sent
 numbered messages n = cond (n == 0) None (slice_get messages (n - 1))
 
+-- message n of those that were sent
 abbrev pub message_at : List Entry → ℕ → Option Sent
 message_at h n = numbered (sent h) n
 
+-- the call is a Close
 abbrev pub is_close : Call → Bool
 is_close call.Close = true
 is_close _ = false
 
+-- there is a Close
 abbrev pub is_closed : List Entry → Bool
 is_closed h = list_any (λ (e : Entry). is_close e.call) h
 
@@ -47,6 +50,7 @@ said_in (message.Check c) = said.Check c.txn
 said_in (message.Confirmed c) = said.Confirmed c.txn
 said_in (message.Foreign api head) = said.Foreign
 
+-- what a Hear brings: what the PSP says, or that it can't be read
 abbrev pub heard_from : List ℕ → Input → Event
 heard_from p (input.Good m) = event.Heard p (said_in m)
 heard_from p (input.Bad b) = event.Unread
@@ -57,6 +61,7 @@ said_by (party.Psp p) what = event.Heard p what
 said_by (party.Bank b) what = event.Told
 said_by party.Switch what = event.Told
 
+-- what the delivery of a message brings, by its body; its sender matters only for the two answers of a model PSP
 abbrev pub delivered : Party → Body → Event
 delivered from (body.RespAuth txn amount word) = said_by from (said.Auth (record { txn = txn; yes = word; amount = amount; payer_ac = None; payee_ac = None }))
 delivered from (body.Confirmed txn) = said_by from (said.Confirmed txn)
@@ -66,6 +71,7 @@ delivered from (body.ReqAuth question) = event.Told
 delivered from (body.Result txn kind outcome req_msg) = event.Told
 delivered from (body.Confirm txn kind outcome) = event.Told
 
+-- what a Deliver brings; one of a message that was never sent counts as told
 abbrev pub read_message : Option Sent → Event
 read_message None = event.Told
 read_message (Some s) = delivered s.from s.body

@@ -47,6 +47,7 @@ pub record PlacesStay (S : List SetupLine) (t : List ℕ) (later h : List Entry)
   pub arrival_stays : (l : Leg) → Stays (arrival S t l h) (arrival S t l (later ++ h))
   pub answer_stays : (l : Leg) → Stays (answer S h t l) (answer S (later ++ h) t l)
 
+-- a place, an arrival or an answer that was found stays the same in every longer history
 abbrev pub AllPlacesStay : Type 0
 AllPlacesStay = (S : List SetupLine) (t : List ℕ) (later h : List Entry) → PlacesStay S t later h
 
@@ -68,6 +69,7 @@ pub record PlacesFollow (S : List SetupLine) (t : List ℕ) (h : List Entry) : T
   pub answered_opened : (l : Leg) (a : Answer) → answer S h t l ≡ Some a → (o : Opening) × (opening S t h ≡ Some o)
   pub answered_arrived : (l : Leg) (a : Answer) → answer S h t l ≡ Some a → (k : ℕ) × (arrival S t l h ≡ Some k)
 
+-- every place stands on the one before it, in every history
 abbrev pub AllPlacesFollow : Type 0
 AllPlacesFollow = (S : List SetupLine) (t : List ℕ) (h : List Entry) → PlacesFollow S t h
 
@@ -92,6 +94,7 @@ pub record IsAllowed (S : List SetupLine) (o : Opening) : Type 0 where
   pub least : 1 ≤ o.terms.amount
   pub most : o.terms.amount ≤ 1_000_000_000
 
+-- an opened payment is between two known, different accounts, with an amount of 1 to 1,000,000,000 paise
 abbrev pub OpeningsAreAllowed : Type 0
 OpeningsAreAllowed = (S : List SetupLine) (h : List Entry) → AllByRecursion (IsAllowed S) (opened S h)
 
@@ -103,12 +106,13 @@ ShardsHaveRoom = (S : List SetupLine) (h : List Entry) (s : ℕ) → count_by (i
 abbrev pub OpeningsHaveRoom : Type 0
 OpeningsHaveRoom = (S : List SetupLine) (h : List Entry) → length (opened S h) ≤ 65_536
 
--- before a Close no place is one of the close
+-- no place of the transaction is one of the close
 pub record IsUncut (S : List SetupLine) (t : List ℕ) (h : List Entry) : Type 0 where
   pub decision_uncut : decision S t h ≡ Some decided.Close → ⊥
   pub debit_uncut : debit S t h ≡ Some ended.Close → ⊥
   pub credit_uncut : credit S t h ≡ Some ended.Close → ⊥
 
+-- before a Close no place is one of the close
 abbrev pub RunningIsUncut : Type 0
 RunningIsUncut = (S : List SetupLine) (t : List ℕ) (h : List Entry) → is_closed h ≡ false → IsUncut S t h
 
@@ -135,6 +139,7 @@ pub record OneComes (S : List SetupLine) (t : List ℕ) (e : Entry) (before : Li
   pub debit_uncaused : debit S t before ≡ None → cause S t before ≡ None
   pub credit_uncaused : (d : LegEnd) → credit S t before ≡ None → credit S t (e ∷ before) ≡ Some d → cause S t before ≡ None
 
+-- what one more entry adds, and that at most one place comes with it
 pub record OneEntry (S : List SetupLine) (t : List ℕ) (e : Entry) (before : List Entry) : Type 0 where
   pub more : IsOneMore S t e before
   pub one : OneComes S t e before
@@ -143,15 +148,17 @@ pub record OneEntry (S : List SetupLine) (t : List ℕ) (e : Entry) (before : Li
 abbrev pub new : {X : Type 0} → Option X → Option X → ℕ
 new before now = if is_none before && is_some now then 1 else 0
 
--- how many places of the transaction come with the entry
+-- how many of the transaction's opening, decision, debit, credit and reversal come with the entry
 abbrev pub coming : List SetupLine → List ℕ → Entry → List Entry → ℕ
 coming S t e before =
     new (opening S t before) (opening S t (e ∷ before)) + new (decision S t before) (decision S t (e ∷ before)) + new (debit S t before) (debit S t (e ∷ before))
     + new (credit S t before) (credit S t (e ∷ before)) + new (reversal S t before) (reversal S t (e ∷ before))
 
+-- at most one place of a transaction comes with an entry
 abbrev pub AtMostOneComes : Type 0
 AtMostOneComes = (S : List SetupLine) (t : List ℕ) (e : Entry) (before : List Entry) → coming S t e before ≤ 1
 
+-- each entry adds so to each transaction, in every history
 abbrev pub OneEntryAdds : Type 0
 OneEntryAdds = (S : List SetupLine) (t : List ℕ) (e : Entry) (before : List Entry) → OneEntry S t e before
 
@@ -174,7 +181,7 @@ is_about t event.Lost = false
 is_about t (event.Late t') = bytes_eq t' t
 is_about t event.Close = true
 
--- the entry leaves all places of the transaction as they were
+-- the entry leaves the opening of the transaction, the places that decide it, and its outcome as they were
 pub record IsUntouched (S : List SetupLine) (t : List ℕ) (e : Entry) (before : List Entry) : Type 0 where
   pub opening_same : opening S t (e ∷ before) ≡ opening S t before
   pub decision_same : decision S t (e ∷ before) ≡ decision S t before
@@ -192,7 +199,7 @@ OthersAreUntouched = (S : List SetupLine) (t : List ℕ) (e : Entry) (before : L
 abbrev pub ClosedIsUntouched : Type 0
 ClosedIsUntouched = (S : List SetupLine) (t : List ℕ) (e : Entry) (before : List Entry) → is_closed before ≡ true → IsUntouched S t e before
 
--- and nothing arrives nor is answered
+-- and nothing is opened nor answered any more
 abbrev pub ClosedAnswersStand : Type 0
 ClosedAnswersStand = (S : List SetupLine) (e : Entry) (before : List Entry) → is_closed before ≡ true → (opened S (e ∷ before) ≡ opened S before) × (answer S (e ∷ before) ≡ answer S before)
 
@@ -200,7 +207,7 @@ ClosedAnswersStand = (S : List SetupLine) (e : Entry) (before : List Entry) → 
 abbrev pub IsNoFirstArrival : List SetupLine → Entry → List Entry → Type 0
 IsNoFirstArrival S e before = (t : List ℕ) (l : Leg) → arrives t l (is_closed before) (reversal_due S t before) (event_of before e.call) ≡ true → is_some (answer S before t l) ≡ true
 
--- only a first arrival changes a balance
+-- only an arrival of a leg that has no answer yet changes a balance
 abbrev pub OnlyArrivalsMove : Type 0
 OnlyArrivalsMove = (S : List SetupLine) (e : Entry) (before : List Entry) → IsNoFirstArrival S e before → (a : Account) → balance S a (e ∷ before) ≡ balance S a before
 
@@ -214,7 +221,7 @@ abbrev pub BalancesAreCapped : Type 0
 BalancesAreCapped = (S : List SetupLine) (h : List Entry) → is_setup S ≡ true
     → AllByRecursion (λ (a : Account). a.opening ≤ 1_000_000_000_000_000 → balance S a h ≤ 1_000_000_000_000_000 + total S (opened S h) (answer S h) a.ac leg.Reversal) (accounts S)
 
--- all payments together are at most 65,536 times the greatest amount
+-- what one leg moves at an account, over all payments, is at most 65,536 times the greatest amount
 abbrev pub TotalsAreBounded : Type 0
 TotalsAreBounded = (S : List SetupLine) (h : List Entry) (answers : Answers) (ac : AccountRef) (l : Leg) → total S (opened S h) answers ac l ≤ 65_536_000_000_000
 
@@ -236,6 +243,7 @@ LegalMore = (S : List SetupLine) (e : Entry) (h : List Entry) → Legal S (e ∷
 abbrev pub LegalBothWays : Type 0
 LegalBothWays = (S : List SetupLine) (H : List Entry) → Legal S (reverse H) ↔ LegalForward S H
 
+-- the second reading of legal grows by an entry at its end in the same way
 abbrev pub LegalForwardMore : Type 0
 LegalForwardMore = (S : List SetupLine) (H : List Entry) (e : Entry) → LegalForward S (H ++ e ∷ []) ↔ (LegalForward S H × IsRight S (reverse H) e)
 

@@ -25,6 +25,7 @@ names_known S h call.Close = true
 abbrev pub has_room : List Entry → Call → Bool
 has_room h c = nat_lt (length h) max_entries || (is_close c && not (is_closed h))
 
+-- the call may come behind the history: the names that it uses are known, and there is room
 abbrev pub may_come : List SetupLine → List Entry → Call → Bool
 may_come S h c = names_known S h c && has_room h c
 

@@ -21,11 +21,12 @@ abbrev pub late_code : Kind → Code
 late_code kind.Pay = code.AuthLate
 late_code kind.Collect = code.Expired
 
+-- the outcome where the asked PSP didn't answer in time
 abbrev pub late_outcome : Option Opening → Option Outcome
 late_outcome None = None
 late_outcome (Some o) = Some (outcome.Failure (late_code o.terms.kind))
 
--- after a debit that was posted
+-- the outcome after a debit that was posted, by how the credit and the reversal ended
 abbrev pub credit_outcome : Option LegEnd → Bool → Option Outcome
 credit_outcome None reversed = None
 credit_outcome (Some (ended.Posted at)) reversed = Some outcome.Success
@@ -33,7 +34,7 @@ credit_outcome (Some (ended.Declined c)) reversed = when reversed (outcome.Failu
 credit_outcome (Some ended.Late) reversed = Some outcome.Deemed
 credit_outcome (Some ended.Close) reversed = Some outcome.Deemed
 
--- after a yes
+-- the outcome after a yes, by how the legs ended
 abbrev pub debit_outcome : Option LegEnd → Option LegEnd → Bool → Option Outcome
 debit_outcome None c reversed = None
 debit_outcome (Some (ended.Posted at)) c reversed = credit_outcome c reversed
@@ -41,6 +42,7 @@ debit_outcome (Some (ended.Declined x)) c reversed = Some (outcome.Failure x)
 debit_outcome (Some ended.Late) c reversed = when reversed (outcome.Failure code.DebitLate)
 debit_outcome (Some ended.Close) c reversed = Some (outcome.Failure code.Closed)
 
+-- the outcome, by how the question and the legs ended; none while one of them is awaited
 abbrev pub outcome_by : Option Opening → Option Decision → Option LegEnd → Option LegEnd → Bool → Option Outcome
 outcome_by o None d c reversed = None
 outcome_by o (Some (decided.Yes at)) d c reversed = debit_outcome d c reversed
@@ -48,5 +50,6 @@ outcome_by o (Some decided.No) d c reversed = Some (outcome.Failure code.Decline
 outcome_by o (Some decided.Late) d c reversed = late_outcome o
 outcome_by o (Some decided.Close) d c reversed = Some (outcome.Failure code.Closed)
 
+-- the outcome of a transaction, if there is one
 abbrev pub outcome_of : List SetupLine → List ℕ → List Entry → Option Outcome
 outcome_of S t h = outcome_by (opening S t h) (decision S t h) (debit S t h) (credit S t h) (is_some (reversal S t h))

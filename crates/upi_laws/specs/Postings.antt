@@ -27,6 +27,7 @@ use Rattle.upi_laws.specs.Places.{same_leg, opened, opening, if_of, decision, de
 abbrev pub reversal_due_by : Option Decision → Option LegEnd → Option LegEnd → Option ℕ → Bool
 reversal_due_by a d c r = (is_some (due_debit a) && is_none d) || (is_some (cause_by d c) && is_none r)
 
+-- a Close would now be the arrival of the transaction's reversal
 abbrev pub reversal_due : List SetupLine → List ℕ → List Entry → Bool
 reversal_due S t h = reversal_due_by (decision S t h) (debit S t h) (credit S t h) (reversal S t h)
 
@@ -36,10 +37,11 @@ arrives_on t l due (event.Ordered t' l') = bytes_eq t' t && same_leg l' l
 arrives_on t l due event.Close = same_leg l leg.Reversal && due
 arrives_on t l due _ = false
 
+-- the event is an arrival of the leg; behind a Close there is none
 abbrev pub arrives : List ℕ → Leg → Bool → Bool → Event → Bool
 arrives t l closed due e = not closed && arrives_on t l due e
 
--- the moment of the first arrival
+-- the moment of the first arrival of a leg
 abbrev pub arrival : List SetupLine → List ℕ → Leg → List Entry → Option ℕ
 arrival S t l h = first (λ before e now. when (arrives t l (is_closed before) (reversal_due S t before) e) now) h
 
@@ -47,6 +49,7 @@ arrival S t l h = first (λ before e now. when (arrives t l (is_closed before) (
 abbrev pub Answers : Type 0
 Answers = List ℕ → Leg → Option Answer
 
+-- the answer is POSTED
 abbrev pub is_posted : Option Answer → Bool
 is_posted (Some answered.Posted) = true
 is_posted _ = false
@@ -66,6 +69,7 @@ posted_at leg.Reversal r = r.payer
 abbrev pub share : List SetupLine → AccountRef → Leg → Option Answer → PayReq → ℕ
 share S ac l a r = if is_account ac (account_at S (posted_at l r)) && is_posted a then r.amount else 0
 
+-- what one leg of all payments moved at an account
 abbrev pub total : List SetupLine → List Opening → Answers → AccountRef → Leg → ℕ
 total S openings answers ac l = sum_by (λ (o : Opening). share S ac l (answers o.terms.txn l) o.terms) openings
 
@@ -74,6 +78,7 @@ abbrev pub balance_by : List SetupLine → List Opening → Answers → Account 
 balance_by S openings answers a =
     a.opening + total S openings answers a.ac leg.Reversal + total S openings answers a.ac leg.Credit - total S openings answers a.ac leg.Debit
 
+-- how a bank answers a debit: declined where the reversal came first, the account takes none, or it has too little; else posted
 abbrev pub post_debit : Option Answer → ℕ → PayReq → Account → Answer
 post_debit reversed balance r a =
     if is_some reversed then answered.Declined code.Reversed
@@ -81,13 +86,14 @@ post_debit reversed balance r a =
     else if nat_lt balance r.amount then answered.Declined code.Funds
     else answered.Posted
 
--- the cap is 10^15 paise, and binds credits alone
+-- how a bank answers a credit: declined where the account takes none, or would pass the cap of 10^15 paise, which binds credits alone; else posted
 abbrev pub post_credit : ℕ → PayReq → Account → Answer
 post_credit balance r a =
     if a.no_credit then answered.Declined code.NoCredit
     else if nat_lt 1_000_000_000_000_000 (balance + r.amount) then answered.Declined code.Cap
     else answered.Posted
 
+-- how a bank answers a reversal: posted where the debit was, else declined, as there is nothing to reverse
 abbrev pub post_reversal : Option Answer → Answer
 post_reversal debited = if is_posted debited then answered.Posted else answered.Declined code.Nothing
 
@@ -108,6 +114,7 @@ answer S (e ∷ before) t l =
     option_or (answer S before t l)
     (if arrives t l (is_closed before) (reversal_due S t before) (event_of before e.call) then post S (opened S before) (answer S before) t l else None)
 
+-- the amount of an opening; nothing where there is none
 abbrev pub amount_of : Option Opening → ℕ
 amount_of None = 0
 amount_of (Some o) = o.terms.amount
@@ -116,6 +123,7 @@ amount_of (Some o) = o.terms.amount
 abbrev pub moved : List SetupLine → List ℕ → Leg → List Entry → ℕ
 moved S t l h = if is_posted (answer S h t l) then amount_of (opening S t h) else 0
 
+-- the balance of an account
 abbrev pub balance : List SetupLine → Account → List Entry → ℕ
 balance S a h = balance_by S (opened S h) (answer S h) a
 

@@ -31,9 +31,11 @@ use Rattle.upi_laws.specs.Outcomes.{late_code, outcome_of}
 use Rattle.upi_laws.specs.Postings.{answer, post}
 use Rattle.upi_laws.specs.Dues.{is_due}
 
+-- OK: an acknowledgement without a code
 abbrev pub ok : Reply
 ok = reply.Ack None
 
+-- NO: an acknowledgement with a code
 abbrev pub no : Code → Reply
 no c = reply.Ack (Some c)
 
@@ -43,11 +45,12 @@ repeats o psp r =
     bytes_eq (asking o) psp && same_kind o.kind r.kind && bytes_eq o.payer r.payer && bytes_eq o.payee r.payee
     && (o.amount == r.amount) && (minutes o == minutes r)
 
+-- the reply to a payment: OK or NO DUP where its name was opened; else OK, or NO with the first rule that it breaks
 abbrev pub reply_pay : List SetupLine → List Opening → List ℕ → PayReq → Option Opening → Reply
 reply_pay S opened psp r (Some o) = if repeats o.terms psp r then ok else no code.Dup
 reply_pay S opened psp r None = reply.Ack (refusal S opened psp r)
 
--- an answer to a question that has ended, or is too late
+-- the reply to an answer, by the decision: it says the same again, says another word, is too late, or decides
 abbrev pub reply_decided : Opening → Bool → ℕ → Option Decision → Reply
 reply_decided o word now (Some (decided.Yes at)) = if word then ok else no code.Dup
 reply_decided o word now (Some decided.No) = if word then no code.Dup else ok
@@ -55,6 +58,7 @@ reply_decided o word now (Some decided.Late) = no (late_code o.terms.kind)
 reply_decided o word now (Some decided.Close) = no (late_code o.terms.kind)
 reply_decided o word now None = if nat_le (due_answer o) now then no (late_code o.terms.kind) else ok
 
+-- the reply to an answer to a question: never opened, not the asked PSP's, another account, another amount, or by the decision
 abbrev pub reply_auth : List SetupLine → List ℕ → AuthWord → ℕ → Option Decision → Option Opening → Reply
 reply_auth S psp a now d None = no code.NoTxn
 reply_auth S psp a now d (Some o) =
@@ -63,10 +67,12 @@ reply_auth S psp a now d (Some o) =
     else if not (a.amount == o.terms.amount) then no code.Amt
     else reply_decided o a.yes now d
 
+-- the reply to a question for a status: the outcome or PENDING, for the PSP of either side
 abbrev pub reply_check : List ℕ → Option Outcome → Option Opening → Reply
 reply_check psp x None = no code.NoTxn
 reply_check psp x (Some o) = if bytes_eq psp (asking o.terms) || bytes_eq psp (asked o.terms) then reply.Status x else no code.NotYours
 
+-- the reply to a confirmation: OK to the asked PSP, once an outcome stands
 abbrev pub reply_confirmed : List ℕ → Option Outcome → Option Opening → Reply
 reply_confirmed psp x None = no code.NoTxn
 reply_confirmed psp x (Some o) =
@@ -74,6 +80,7 @@ reply_confirmed psp x (Some o) =
     else if is_none x then no code.Early
     else ok
 
+-- the reply to what a PSP says, before a Close
 abbrev pub reply_heard : List SetupLine → List Entry → List ℕ → Said → ℕ → Reply
 reply_heard S h p (said.Pay r) now = reply_pay S (opened S h) p r (opening S r.txn h)
 reply_heard S h p (said.Auth a) now = reply_auth S p a now (decision S a.txn h) (opening S a.txn h)
@@ -81,7 +88,7 @@ reply_heard S h p (said.Check t) now = reply_check p (outcome_of S t h) (opening
 reply_heard S h p (said.Confirmed t) now = reply_confirmed p (outcome_of S t h) (opening S t h)
 reply_heard S h p said.Foreign now = no code.NotYours
 
--- an answer for a leg that a Late has ended
+-- the reply to a bank's answer: refused with the code where a Late has ended the leg, else OK
 abbrev pub late_answer : Code → Option LegEnd → Reply
 late_answer c (Some ended.Late) = no c
 late_answer c (Some (ended.Posted at)) = ok
@@ -89,23 +96,27 @@ late_answer c (Some (ended.Declined x)) = ok
 late_answer c (Some ended.Close) = ok
 late_answer c None = ok
 
+-- the reply to a bank's answer for a leg: refused where a Late has ended the debit or the credit
 abbrev pub reply_answered : List SetupLine → List Entry → List ℕ → Leg → Reply
 reply_answered S h t leg.Debit = late_answer code.DebitLate (debit S t h)
 reply_answered S h t leg.Credit = late_answer code.CreditLate (credit S t h)
 reply_answered S h t leg.Reversal = ok
 
--- as the order was answered before, or as it would be posted now
+-- what a bank says to an order that is delivered: as the leg was answered before, or as it would be posted now
 abbrev pub order_answer : List SetupLine → List Entry → List ℕ → Leg → Option Answer
 order_answer S h t l = option_or (answer S h t l) (post S (opened S h) (answer S h) t l)
 
+-- the reply to an order that arrives: the leg's answer, or TOLD where it has none
 abbrev pub reply_order : Option Answer → Reply
 reply_order None = reply.Told
 reply_order (Some a) = reply.Leg a
 
+-- the reply to a Late: DONE where the transaction is due, else NOTDUE
 abbrev pub reply_late : Bool → Reply
 reply_late true = reply.Acted
 reply_late false = reply.NotDue
 
+-- the reply to an event, before a Close
 abbrev pub reply_on : List SetupLine → List Entry → Event → ℕ → Reply
 reply_on S h (event.Heard p what) now = reply_heard S h p what now
 reply_on S h event.Unread now = no code.Format
@@ -121,15 +132,17 @@ abbrev pub reply_closed_said : List SetupLine → List Entry → List ℕ → Sa
 reply_closed_said S h p (said.Check t) = reply_check p (outcome_of S t h) (opening S t h)
 reply_closed_said S h p _ = no code.Closed
 
+-- the reply to a Hear after a Close: what can't be read is still told so
 abbrev pub reply_closed_on : List SetupLine → List Entry → Event → Reply
 reply_closed_on S h (event.Heard p what) = reply_closed_said S h p what
 reply_closed_on S h event.Unread = no code.Format
 reply_closed_on S h _ = no code.Closed
 
--- a message that is delivered after the close is refused, whoever says it
+-- after a Close every call but a Hear is refused, also the delivery of a message, whoever sent it
 abbrev pub reply_closed : List SetupLine → List Entry → Call → Reply
 reply_closed S h (call.Hear p what) = reply_closed_on S h (event_of h (call.Hear p what))
 reply_closed S h _ = no code.Closed
 
+-- the reply to a call at a moment behind a history
 abbrev pub reply_to : List SetupLine → List Entry → Call → ℕ → Reply
 reply_to S h c now = if is_closed h then reply_closed S h c else reply_on S h (event_of h c) now

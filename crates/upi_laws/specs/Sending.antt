@@ -47,12 +47,15 @@ abbrev pub order_at : PayReq → Leg → Option Account → List Sent
 order_at r l None = []
 order_at r l (Some a) = record { from = party.Switch; to = party.Bank a.ac.bank; body = body.Order r.txn l r.amount a.ac (posted_at l r) } ∷ []
 
+-- the order for a leg of a payment, to the bank at which it is posted
 abbrev pub order : List SetupLine → PayReq → Leg → List Sent
 order S r l = order_at r l (account_at S (posted_at l r))
 
+-- CONFIRM: the outcome to the asked PSP
 abbrev pub confirmation : PayReq → Outcome → Sent
 confirmation r x = record { from = party.Switch; to = party.Psp (asked r); body = body.Confirm r.txn r.kind x }
 
+-- CONFIRM, where there is an outcome
 abbrev pub confirm : PayReq → Option Outcome → List Sent
 confirm r None = []
 confirm r (Some x) = confirmation r x ∷ []
@@ -67,10 +70,12 @@ abbrev pub anew : {X : Type 0} → Option X → Option X → Option X
 anew (Some before) now = None
 anew None now = now
 
+-- an opening sends the question
 abbrev pub sent_on_opening : Option Opening → List Sent
 sent_on_opening None = []
 sent_on_opening (Some o) = question o.terms ∷ []
 
+-- a yes sends DEBIT; a no, or no answer in time, sends the outcome; a Close sends nothing
 abbrev pub sent_on_decision : List SetupLine → PayReq → Option Outcome → Option Decision → List Sent
 sent_on_decision S r x None = []
 sent_on_decision S r x (Some (decided.Yes at)) = order S r leg.Debit
@@ -78,6 +83,7 @@ sent_on_decision S r x (Some decided.No) = outcome_messages r x
 sent_on_decision S r x (Some decided.Late) = outcome_messages r x
 sent_on_decision S r x (Some decided.Close) = []
 
+-- a debit posted sends CREDIT, declined the outcome, late REVERSAL; a Close sends nothing
 abbrev pub sent_on_debit : List SetupLine → PayReq → Option Outcome → Option LegEnd → List Sent
 sent_on_debit S r x None = []
 sent_on_debit S r x (Some (ended.Posted at)) = order S r leg.Credit
@@ -85,6 +91,7 @@ sent_on_debit S r x (Some (ended.Declined c)) = outcome_messages r x
 sent_on_debit S r x (Some ended.Late) = order S r leg.Reversal
 sent_on_debit S r x (Some ended.Close) = []
 
+-- a credit posted or late sends the outcome, declined REVERSAL; a Close sends nothing
 abbrev pub sent_on_credit : List SetupLine → PayReq → Option Outcome → Option LegEnd → List Sent
 sent_on_credit S r x None = []
 sent_on_credit S r x (Some (ended.Posted at)) = outcome_messages r x
@@ -92,6 +99,7 @@ sent_on_credit S r x (Some (ended.Declined c)) = order S r leg.Reversal
 sent_on_credit S r x (Some ended.Late) = outcome_messages r x
 sent_on_credit S r x (Some ended.Close) = []
 
+-- the end of the reversal sends the outcome
 abbrev pub sent_on_reversal : PayReq → Option Outcome → Option ℕ → List Sent
 sent_on_reversal r x None = []
 sent_on_reversal r x (Some at) = outcome_messages r x
@@ -102,15 +110,17 @@ again S r (Some x) why = confirm r (Some x)
 again S r None (Some why) = order S r leg.Reversal
 again S r None None = []
 
+-- what a Late sends again, where it is due
 abbrev pub sent_again : List SetupLine → PayReq → Option Outcome → Option Code → Bool → List Sent
 sent_again S r x why true = again S r x why
 sent_again S r x why false = []
 
--- what comes of an opened transaction at an entry
+-- what is sent for an opened transaction on the places that come anew
 abbrev pub sent_by_places : List SetupLine → PayReq → Option Outcome → Option Decision → Option LegEnd → Option LegEnd → Option ℕ → List Sent
 sent_by_places S r x a d c back = sent_on_decision S r x a ++ sent_on_debit S r x d ++ sent_on_credit S r x c ++ sent_on_reversal r x back
 
--- What an event brings to an opened transaction, by how its question, its debit, its credit and its reversal stand before. What is told is the outcome that then stands.
+-- What is sent for an opened transaction on an event, by how its question, its debit, its credit and its reversal stand before.
+-- What is told is the outcome that then stands.
 abbrev pub sent_by_state : List SetupLine → Opening → Option Decision → Option LegEnd → Option LegEnd → Option ℕ → Event → ℕ → List Sent
 sent_by_state S o a d c back e now =
     let t = o.terms.txn in
@@ -121,6 +131,7 @@ sent_by_state S o a d c back e now =
     let x = outcome_by (Some o) (option_or a a') (option_or d d') (option_or c c') (is_some (option_or back back')) in
     sent_by_places S o.terms x (anew a a') (anew d d') (anew c c') (anew back back')
 
+-- what is sent for an opened transaction on an event, as the transaction stands in the history
 abbrev pub sent_by_txn : List SetupLine → List Entry → Opening → Event → ℕ → List Sent
 sent_by_txn S h o e now =
     sent_by_state S o (decision S o.terms.txn h) (debit S o.terms.txn h) (credit S o.terms.txn h) (reversal S o.terms.txn h) e now
@@ -131,6 +142,7 @@ sent_on_late S h now None = []
 sent_on_late S h now (Some o) =
     sent_by_txn S h o (event.Late o.terms.txn) now ++ sent_again S o.terms (outcome_of S o.terms.txn h) (cause S o.terms.txn h) (is_due S o.terms.txn h now)
 
+-- what is sent for a transaction on an event; nothing where it was never opened
 abbrev pub sent_on_event : List SetupLine → List Entry → Event → ℕ → Option Opening → List Sent
 sent_on_event S h e now None = []
 sent_on_event S h e now (Some o) = sent_by_txn S h o e now
@@ -146,6 +158,7 @@ model_word psp q policy.Yes = record { from = psp; to = party.Switch; body = bod
 model_word psp q policy.No = record { from = psp; to = party.Switch; body = body.RespAuth q.txn q.amount false } ∷ []
 model_word psp q policy.Ask = []
 
+-- a model PSP answers for an address that is in the setup
 abbrev pub model_answer_by : Party → AuthQuestion → Option Listing → List Sent
 model_answer_by psp q None = []
 model_answer_by psp q (Some l) = model_word psp q l.policy
@@ -160,6 +173,7 @@ receiver_answer S h to (body.LegAnswer t l a) = []
 receiver_answer S h to (body.Result t kind x req_msg) = []
 receiver_answer S h to (body.Confirmed t) = []
 
+-- what is answered to a message that was sent; nothing where there is no such message
 abbrev pub answered_message : List SetupLine → List Entry → Option Sent → List Sent
 answered_message S h None = []
 answered_message S h (Some s) = receiver_answer S h s.to s.body
@@ -169,6 +183,7 @@ abbrev pub receiver_answers : List SetupLine → List Entry → Call → List Se
 receiver_answers S h (call.Deliver n) = answered_message S h (message_at h n)
 receiver_answers S h _ = []
 
+-- what the switch sends on a PSP's words: on a payment that opens, and on an answer that decides
 abbrev pub sent_on_said : List SetupLine → List Entry → List ℕ → Said → ℕ → List Sent
 sent_on_said S h p (said.Pay r) now = sent_on_opening (opens_said S (opened S h) now p (said.Pay r))
 sent_on_said S h p (said.Auth a) now = sent_on_event S h (event.Heard p (said.Auth a)) now (opening S a.txn h)

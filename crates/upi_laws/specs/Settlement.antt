@@ -26,6 +26,7 @@ abbrev pub bank_of : Option Account → List ℕ
 bank_of None = []
 bank_of (Some a) = a.ac.bank
 
+-- the bank of the account of an address
 abbrev pub bank_at : List SetupLine → List ℕ → List ℕ
 bank_at S addr = bank_of (account_at S addr)
 
@@ -35,6 +36,7 @@ is_settled (Some outcome.Success) = true
 is_settled (Some outcome.Deemed) = true
 is_settled _ = false
 
+-- the outcome is DEEMED
 abbrev pub is_deemed : Option Outcome → Bool
 is_deemed (Some outcome.Deemed) = true
 is_deemed _ = false
@@ -49,6 +51,7 @@ items_of S bank r =
 abbrev pub settle : List SetupLine → List ℕ → List Entry → List Item
 settle S bank h = flat_map (λ (o : Opening). if is_settled (outcome_of S o.terms.txn h) then items_of S bank o.terms else []) (opened S h)
 
+-- what the bank received by an item of its settlement list
 abbrev pub received_in : Item → ℕ
 received_in i = by i.side i.amount
   where
@@ -56,6 +59,7 @@ received_in i = by i.side i.amount
     by stands.Paid amount = 0
     by stands.Received amount = amount
 
+-- what the bank paid by an item of its settlement list
 abbrev pub paid_in : Item → ℕ
 paid_in i = by i.side i.amount
   where
@@ -67,7 +71,7 @@ paid_in i = by i.side i.amount
 abbrev pub net : List SetupLine → List ℕ → List Entry → ℤ
 net S bank h = pos (sum_by received_in (settle S bank h)) -ℤ pos (sum_by paid_in (settle S bank h))
 
--- an item for a deemed payment whose credit didn't move
+-- the payment is DEEMED and its credit didn't move, so that it has a reconciliation item
 abbrev pub unmatched : List SetupLine → List Entry → Opening → Bool
 unmatched S h o = is_deemed (outcome_of S o.terms.txn h) && not (is_posted (answer S h o.terms.txn leg.Credit))
 

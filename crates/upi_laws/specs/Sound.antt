@@ -32,12 +32,13 @@ use Rattle.upi_laws.specs.Legal.{Legal}
 use Rattle.upi_laws.specs.Settlement.{net, recon, position, accounts, banks}
 use Rattle.upi_laws.specs.Laws.{Stays}
 
--- ---- (a) An outcome in a prefix is the outcome in the history.
+-- ---- An outcome in a prefix is the outcome in the history.
 
+-- every outcome that stands in the prefix P is the outcome in the history H
 abbrev pub OutcomesStay : List SetupLine → List Entry → List Entry → Type 0
 OutcomesStay S P H = (t : List ℕ) → Stays (outcome_of S t P) (outcome_of S t H)
 
--- ---- (b) Whatever an entry says of an outcome is the outcome of that transaction then. So before the place at which the outcome comes
+-- ---- Whatever an entry says of an outcome is the outcome of that transaction then. So before the place at which the outcome comes
 -- every status is pending, and no RESPPAY or CONFIRM is sent; at that place and at each later one all of them carry it.
 
 -- a RESPPAY or a CONFIRM carries the outcome that its transaction has in the history
@@ -53,16 +54,17 @@ pub record StatusTells (S : List SetupLine) (e : Entry) (before : List Entry) (x
   pub checked : event_of before e.call ≡ event.Heard psp (said.Check txn)
   pub told : x ≡ outcome_of S txn (e ∷ before)
 
+-- a status in the reply of the entry, and each RESPPAY and CONFIRM that it sends, tells the outcome that then stands
 pub record LatestTells (S : List SetupLine) (e : Entry) (before : List Entry) : Type 0 where
   pub status : (x : Option Outcome) → e.reply ≡ reply.Status x → StatusTells S e before x
   pub messages : AllByRecursion (λ (s : Sent). TellsOutcome S (e ∷ before) s.body) e.sent
 
--- the latest entry of a prefix tells it
+-- the newest entry of a prefix tells outcomes as they then stand
 abbrev pub OutcomesTold : List SetupLine → List Entry → Type 0
 OutcomesTold S [] = Unit {0}
 OutcomesTold S (e ∷ before) = LatestTells S e before
 
--- ---- (c) Each leg of each transaction moves at most once.
+-- ---- Each leg of each transaction moves at most once.
 
 -- the entry is the first arrival of no leg
 abbrev pub IsNoArrival : List SetupLine → Entry → List Entry → Type 0
@@ -75,6 +77,7 @@ pub record LatestPosts (S : List SetupLine) (e : Entry) (before : List Entry) : 
   pub refuses : (t : List ℕ) (l : Leg) → event_of before e.call ≡ event.Ordered t l → is_closed before ≡ true → e.reply ≡ no code.Closed
   pub rests : IsNoArrival S e before → (a : Account) → balance S a (e ∷ before) ≡ balance S a before
 
+-- the newest entry of a prefix answers orders so, and moves nothing but by a first arrival
 abbrev pub LegsPosted : List SetupLine → List Entry → Type 0
 LegsPosted S [] = Unit {0}
 LegsPosted S (e ∷ before) = LatestPosts S e before
@@ -84,13 +87,16 @@ pub record LegsPostOnce (S : List SetupLine) (P H : List Entry) : Type 0 where
   pub latest : LegsPosted S P
   pub answers_stay : (t : List ℕ) (l : Leg) → Stays (answer S P t l) (answer S H t l)
 
--- ---- (d) Where the debit of a COLLECT moved, an entry between its opening and the debit's arrival hears from the PSP of the payer's address
+-- ---- Where the debit of a COLLECT moved, an entry between its opening and the debit's arrival hears from the PSP of the payer's address
 -- a yes on that transaction for that amount, before 60 times its minutes are over.
 
+-- how a COLLECT was approved: behind its opening and before its debit's arrival the payer's PSP says yes, for the amount and in time
 pub record Approval (S : List SetupLine) (t : List ℕ) (P : List Entry) (o : Opening) : Type 0 where
+  -- what came after the approving entry, that entry, and what stood before it
   pub later : List Entry
   pub entry : Entry
   pub before : List Entry
+  -- the yes that it brings
   pub word : AuthWord
   pub splits : later ++ entry ∷ before ≡ P
   pub opened_before : opening S t before ≡ Some o
@@ -101,15 +107,17 @@ pub record Approval (S : List SetupLine) (t : List ℕ) (P : List Entry) (o : Op
   pub same_amount : word.amount ≡ o.terms.amount
   pub in_time : entry.at < o.at + 60 * minutes o.terms
 
+-- each COLLECT whose debit moved was approved
 abbrev pub CollectsApproved : List SetupLine → List Entry → Type 0
 CollectsApproved S P = (t : List ℕ) (o : Opening) → opening S t P ≡ Some o → o.terms.kind ≡ kind.Collect → answer S P t leg.Debit ≡ Some answered.Posted → Approval S t P o
 
--- ---- (e) All balances and the money in flight are together what the accounts opened with.
+-- ---- All balances and the money in flight are together what the accounts opened with.
 
+-- balances and money in flight are together what the accounts opened with
 abbrev pub MoneyKept : List SetupLine → List Entry → Type 0
 MoneyKept S P = sum_by (λ (a : Account). balance S a P) (accounts S) + flight S P ≡ sum_by (λ (a : Account). a.opening) (accounts S)
 
--- ---- (f) At the close every opened transaction has an outcome, and its legs moved as the outcome says.
+-- ---- At the close every opened transaction has an outcome, and its legs moved as the outcome says.
 
 -- debit less reversal, and credit, are both the amount; or both are nothing; or debit less reversal is the amount, and the credit is
 -- the amount without an item, or nothing with one item
@@ -123,29 +131,35 @@ MovedAs outcome.Deemed amount debited credited returned items =
 abbrev pub items_on : List SetupLine → List ℕ → List Entry → ℕ
 items_on S t P = count_by (λ (i : Recon). bytes_eq i.txn t) (recon S P)
 
-pub record IsSettled (S : List SetupLine) (t : List ℕ) (P : List Entry) (o : Opening) : Type 0 where
+-- the transaction has an outcome, and its legs moved as the outcome says
+pub record HasEnded (S : List SetupLine) (t : List ℕ) (P : List Entry) (o : Opening) : Type 0 where
   pub ends : Outcome
   pub outcome_is : outcome_of S t P ≡ Some ends
   pub moved_as : MovedAs ends o.terms.amount (moved S t leg.Debit P) (moved S t leg.Credit P) (moved S t leg.Reversal P) (items_on S t P)
 
-abbrev pub AllSettled : List SetupLine → List Entry → Type 0
-AllSettled S P = (t : List ℕ) (o : Opening) → opening S t P ≡ Some o → IsSettled S t P o
+-- every opened transaction has an outcome, and its legs moved so
+abbrev pub AllHaveEnded : List SetupLine → List Entry → Type 0
+AllHaveEnded S P = (t : List ℕ) (o : Opening) → opening S t P ≡ Some o → HasEnded S t P o
 
--- ---- (g) The nets of all banks sum to nothing, and the reconciliation items sum to the money in flight.
+-- ---- The nets of all banks sum to nothing, and the reconciliation items sum to the money in flight.
 
+-- the sum of the nets of these banks
 abbrev pub nets : List SetupLine → List (List ℕ) → List Entry → ℤ
 nets S [] P = pos 0
 nets S (b ∷ bs) P = net S b P +ℤ nets S bs P
 
+-- the nets of all banks sum to 0, and the reconciliation items to the money in flight
 pub record NetsBalance (S : List SetupLine) (P : List Entry) : Type 0 where
   pub nets_even : nets S (banks S) P ≡ pos 0
   pub items_flight : sum_by (λ (i : Recon). i.amount) (recon S P) ≡ flight S P
 
--- ---- (h) At each bank what the accounts opened with and the net are the balances and the bank's items.
+-- ---- At each bank what the accounts opened with and the net are the balances and the bank's items.
 
+-- what the accounts of a bank opened with
 abbrev pub opened_with : List SetupLine → List ℕ → ℕ
 opened_with S bank = sum_by (λ (a : Account). if bytes_eq a.ac.bank bank then a.opening else 0) (accounts S)
 
+-- what the accounts of a bank hold
 abbrev pub held : List SetupLine → List ℕ → List Entry → ℕ
 held S bank P = sum_by (λ (a : Account). if bytes_eq a.ac.bank bank then balance S a P else 0) (accounts S)
 
@@ -153,11 +167,13 @@ held S bank P = sum_by (λ (a : Account). if bytes_eq a.ac.bank bank then balanc
 abbrev pub items_at : List SetupLine → List ℕ → List Entry → ℕ
 items_at S bank P = sum_by (λ (i : Recon). if bytes_eq i.bank bank then i.amount else 0) (recon S P)
 
+-- what the bank's accounts opened with and its net are what its accounts hold and its items
 abbrev pub BankBalances : List SetupLine → List Entry → List ℕ → Type 0
 BankBalances S P bank = pos (opened_with S bank) +ℤ net S bank P ≡ pos (held S bank P + items_at S bank P)
 
--- ---- (i) At each bank the net is credits and items, less debits, and reversals.
+-- ---- At each bank the net is its credits, items and reversals, less its debits.
 
+-- the bank's net is its credits, items and reversals, less its debits
 abbrev pub BankNets : List SetupLine → List Entry → List ℕ → Type 0
 BankNets S P bank = net S bank P ≡ pos (position S bank leg.Credit P + items_at S bank P + position S bank leg.Reversal P) -ℤ pos (position S bank leg.Debit P)
 
@@ -168,8 +184,9 @@ abbrev pub JustClosed : List Entry → Type 0
 JustClosed [] = ⊥
 JustClosed (e ∷ before) = (is_close e.call ≡ true) × (is_closed before ≡ false)
 
+-- what holds at the first Close
 pub record ClosesSound (S : List SetupLine) (P : List Entry) : Type 0 where
-  pub all_settled : AllSettled S P
+  pub all_have_ended : AllHaveEnded S P
   pub nets_balance : NetsBalance S P
   pub bank_balances : AllByRecursion (BankBalances S P) (banks S)
   pub bank_nets : AllByRecursion (BankNets S P) (banks S)
@@ -183,13 +200,15 @@ pub record PrefixSound (S : List SetupLine) (P H : List Entry) : Type 0 where
   pub money_kept : MoneyKept S P
   pub closes_sound : JustClosed P → ClosesSound S P
 
+-- every prefix P of the history H keeps what a prefix promises
 abbrev pub Sound : List SetupLine → List Entry → Type 0
 Sound S H = (later P : List Entry) → later ++ P ≡ H → PrefixSound S P H
 
--- every prefix of a legal history tells its outcomes, and posts each leg once
+-- every prefix of a legal history tells its outcomes as they stand
 abbrev pub LegalTells : Type 0
 LegalTells = (S : List SetupLine) (later P : List Entry) → Legal S (later ++ P) → OutcomesTold S P
 
+-- every prefix of a legal history posts each leg once
 abbrev pub LegalPostsOnce : Type 0
 LegalPostsOnce = (S : List SetupLine) (later P : List Entry) → Legal S (later ++ P) → LegsPostOnce S P (later ++ P)
 
@@ -205,6 +224,6 @@ LegalKeepsMoney = (S : List SetupLine) (P : List Entry) → is_setup S ≡ true 
 abbrev pub LegalClosesSound : Type 0
 LegalClosesSound = (S : List SetupLine) (P : List Entry) → is_setup S ≡ true → Legal S P → JustClosed P → ClosesSound S P
 
--- every legal history is sound
+-- every legal history over an accepted setup is sound
 abbrev pub LegalIsSound : Type 0
 LegalIsSound = (S : List SetupLine) (H : List Entry) → is_setup S ≡ true → Legal S H → Sound S H

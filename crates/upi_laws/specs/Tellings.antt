@@ -40,6 +40,7 @@ IsStage (Some (decided.Yes at)) (Some (ended.Posted k)) (Some ended.Late) None =
 IsStage (Some (decided.Yes at)) (Some (ended.Posted k)) (Some ended.Close) None = Unit {0}
 IsStage _ _ _ _ = ⊥
 
+-- decision, debit, credit and reversal stand together only in these ways
 abbrev pub PlacesAreStages : Type 0
 PlacesAreStages = (S : List SetupLine) (t : List ℕ) (h : List Entry) → IsStage (decision S t h) (debit S t h) (credit S t h) (reversal S t h)
 
@@ -57,6 +58,7 @@ outcome_new None None = 0
 outcome_new None (Some x) = 1
 outcome_new (Some x) now = 0
 
+-- the event is a Late of the transaction
 abbrev pub is_late_for : List ℕ → Event → Bool
 is_late_for t (event.Late t') = bytes_eq t' t
 is_late_for t _ = false
@@ -70,6 +72,7 @@ pub record EntryTellings (S : List SetupLine) (t : List ℕ) (e : Entry) (before
   pub result_new : count_by (results t) e.sent ≡ outcome_new (outcome_of S t before) (outcome_of S t (e ∷ before))
   pub confirm_new : count_by (confirms t) e.sent ≡ outcome_new (outcome_of S t before) (outcome_of S t (e ∷ before)) + confirmed_again S t before (event_of before e.call) e.at
 
+-- each entry of a legal history tells so, before a Close
 abbrev pub AllEntryTellings : Type 0
 AllEntryTellings = (S : List SetupLine) (t : List ℕ) (e : Entry) (before : List Entry) → Legal S (e ∷ before) → is_closed (e ∷ before) ≡ false → EntryTellings S t e before
 
@@ -90,6 +93,7 @@ pub record OutcomeTellings (S : List SetupLine) (t : List ℕ) (h : List Entry) 
   pub result_none : outcome_of S t (running h) ≡ None → count_by (results t) (sent h) ≡ 0
   pub confirmed_none : outcome_of S t (running h) ≡ None → count_by (confirms t) (sent h) ≡ 0
 
+-- in a legal history the outcome of each transaction is told so often, and no other is told
 abbrev pub AllOutcomeTellings : Type 0
 AllOutcomeTellings = (S : List SetupLine) (t : List ℕ) (h : List Entry) → Legal S h → OutcomeTellings S t h
 

@@ -112,7 +112,7 @@ pub fn legal_forward_more()
     ensures { LegalForwardMore }
 {}
 
-/// Only a first arrival of a leg changes a balance.
+/// Only an arrival of a leg that has no answer yet changes a balance.
 pub fn only_arrivals_move()
     ensures { OnlyArrivalsMove }
 {}

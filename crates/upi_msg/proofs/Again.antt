@@ -20,14 +20,14 @@ use Rattle.serde_json.proofs.Texts.{print-outline}
 use Rattle.upi_base.specs.Lists.{when}
 use Rattle.upi_base.specs.Texts.{fits, is_name, is_txn_id, is_addr}
 use Rattle.upi_base.specs.Money.{paise_text, max_paise}
-use Rattle.upi_base.specs.Time.{moment_text}
+use Rattle.upi_base.specs.Time.{◌>>=◌, moment_text}
 use Rattle.upi_base.proofs.Again.{paise_again, moment_again}
 use Rattle.upi_base.specs.declared.code.Kind.TheVariants as kind
 use Rattle.upi_base.specs.declared.message.Head.{Head}
 use Rattle.upi_base.specs.declared.message.PayReq.{PayReq}
 use Rattle.upi_base.specs.declared.message.Message.TheVariants as message
 use Rattle.upi_msg.specs.Tree.{only, head_tree, amount_tree, payer_tree, payee_tree, payment_tree, pay_tree, message_tree, message_text}
-use Rattle.upi_msg.specs.Plain.{IsPlain, IsTyped, IsTypedHead, small_at, plain_head, plain_payee, plain_amount, plain_of, if_written, plain_in, ◌>>=◌, IsOther, PlainReadsBack}
+use Rattle.upi_msg.specs.Plain.{IsPlain, IsTyped, IsTypedHead, small_at, plain_head, plain_payee, plain_amount, plain_of, if_written, plain_in, IsOther, PlainReadsBack}
 use Rattle.upi_msg.proofs.Pieces.{glue}
 use Rattle.upi_msg.proofs.Parts.{head_parts, head_text, amount_parts, amount_text, payer_parts, payer_text, payee_parts, payee_text, payment_parts, payment_text, pay_parts, pay_text}
 use Rattle.upi_msg.proofs.Clear.{utf8_clear, clear_name, clear_address, clear_paise, clear_moment}

@@ -7,17 +7,13 @@ use Rattle.serde_json.specs.Read.{read}
 use Rattle.upi_base.specs.Lists.{when}
 use Rattle.upi_base.specs.Texts.{is_msg_id, is_org_id, is_txn_id, is_addr}
 use Rattle.upi_base.specs.Money.{paise_of, max_paise}
-use Rattle.upi_base.specs.Time.{moment_of, max_moment}
+use Rattle.upi_base.specs.Time.{◌>>=◌, moment_of, max_moment}
 use Rattle.upi_base.specs.declared.code.Kind.TheVariants as kind
 use Rattle.upi_base.specs.declared.message.Head.{Head}
 use Rattle.upi_base.specs.declared.message.PayReq.{PayReq}
 use Rattle.upi_base.specs.declared.message.Message.{Message}
 use Rattle.upi_base.specs.declared.message.Message.TheVariants as message
 use Rattle.upi_msg.specs.Tree.{message_text}
-
-infixl 10 ◌>>=◌
-abbrev pub ◌>>=◌ : {A B : Type 0} → Option A → (A → Option B) → Option B
-o >>= f = option_and_then f o
 
 -- a PAY that gives neither a note, nor rules, nor accounts
 abbrev pub IsPlain : PayReq → Type 0

@@ -40,7 +40,7 @@ fn account(bank: &[u8], num: &[u8]) -> Option<AccountRef> {
     })
 }
 
-fn p1() -> Option<PayReq> {
+fn first_payment() -> Option<PayReq> {
     Some(PayReq {
         head: head(b"A1", b"alpha")?,
         kind: Kind::Pay,
@@ -91,7 +91,7 @@ fn is_written(alloc: Global, message: &Message, expected: &[u8]) -> Result<bool,
 #[test]
 fn payments(rt: HostRuntime) -> Result<(), Fail> {
     let alloc = rt.alloc();
-    let plain = Boxed::new(alloc, p1().ok_or("a payment")?)
+    let plain = Boxed::new(alloc, first_payment().ok_or("a payment")?)
         .ok()
         .ok_or("memory")?;
     assert!(rt;
@@ -175,7 +175,7 @@ fn plain_payment(rt: HostRuntime) -> Result<(), Fail> {
     let alloc = rt.alloc();
     let text = joined(alloc, &[HEAD, PAYEES, PAYER, TXN])?;
     let found = read_plain(alloc, &text).ok().ok_or("memory")?;
-    let expected = Boxed::new(alloc, p1().ok_or("a payment")?)
+    let expected = Boxed::new(alloc, first_payment().ok_or("a payment")?)
         .ok()
         .ok_or("memory")?;
     assert!(rt; found == Some(Message::Pay(expected)));

@@ -1,5 +1,4 @@
 pub mod Messages
-pub mod Totals
 pub mod Steps
 pub mod Says
 pub mod Addresses

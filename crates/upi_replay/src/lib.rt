@@ -1,5 +1,6 @@
-//! The definitions of `upi_laws`, computed: a plain program that goes over a history once, and keeps
-//! what it has found in lists.
+//! The definitions of `upi_laws`, computed: a plain program that goes over a history from entry to
+//! entry and keeps what it has found in lists. A message by its number, and how often and when a
+//! message was sent, it looks for in the history.
 #![tactic(auto)]
 
 pub mod dues;

@@ -1,5 +1,5 @@
 //! What was found, read: outcomes, balances, and money in flight.
-ghost use Rattle.std.specs.Prelude.{◌≡◌, ◌≤◌, ◌*◌, List, ℕ, length};
+ghost use Rattle.std.specs.Prelude.{◌≡◌, ◌≤◌, ◌<◌, ◌^◌, List, ℕ};
 ghost use Rattle.upi_base.specs.declared.setup.SetupLine.{SetupLine as ALine};
 ghost use Rattle.upi_base.specs.declared.entry.Entry.{Entry as AnEntry};
 ghost use Rattle.upi_laws.specs.Outcomes.{outcome_of};
@@ -22,9 +22,10 @@ fn in_flight(row: &Row) -> u64
     }
 }
 
-fn all_in_flight(rows: &[Row]) -> u128
+/// The money in flight over these rows, in paise.
+pub fn all_in_flight(rows: &[Row]) -> u128
     ensures flight { result ≡ rows_flight rows.now }
-    ensures bound { result ≤ 1_000_000_000_000_000 * length rows.now }
+    ensures bound { result < 2 ^ 120 }
 {
     let mut sum: u128 = 0;
     for row in rows {

@@ -39,8 +39,8 @@ pub fn reply_of(
 }
 
 /// Whether a history is legal: yes, with the count of its entries, or the first entry that isn't
-/// right, counted from 1, and the first reason. It goes over the history once, and fails only for
-/// want of memory.
+/// right, counted from 1, and the first reason. It goes over the history from entry to entry, and
+/// fails only for want of memory.
 pub fn replay(alloc: Global, setup: &Setup, history: &[Entry]) -> Result<Verdict, NoMemory>
     ensures { IfOk result (λ v. Judges setup.now.lines history.now v) }
 {

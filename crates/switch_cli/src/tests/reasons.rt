@@ -3,10 +3,11 @@
 use upi_base::Why;
 
 // Before START.
-pub(super) const FIRST: [(&str, u32, Why); 11] = [
+pub(super) const FIRST: [(&str, u32, Why); 12] = [
     ("\u{e9}", 1, Why::Word),
     ("BANK AAAA", 1, Why::Word),
     ("OPEN", 1, Why::Word),
+    ("DELIVER 1", 1, Why::Word),
     ("start 2024-01-01T05:30:00+05:30", 1, Why::Word),
     (" START 2024-01-01T05:30:00+05:30", 1, Why::Word),
     ("STOP now please", 1, Why::Word),
@@ -18,11 +19,12 @@ pub(super) const FIRST: [(&str, u32, Why); 11] = [
 ];
 
 // Behind the setup, before OPEN.
-pub(super) const SETUP_LINES: [(&str, u32, Why); 39] = [
+pub(super) const SETUP_LINES: [(&str, u32, Why); 48] = [
     ("START 2024-01-01T05:30:00+05:30", 1, Why::Word),
     ("SEND alpha x", 1, Why::Word),
     ("CLOSE", 1, Why::Word),
     ("RUN", 1, Why::Word),
+    ("TICK 30", 1, Why::Word),
     ("bank CCCC", 1, Why::Word),
     ("BANK", 0, Why::Fields),
     ("BANK  CCCC", 0, Why::Fields),
@@ -57,12 +59,21 @@ pub(super) const SETUP_LINES: [(&str, u32, Why); 39] = [
     ("OPEN now", 0, Why::Fields),
     // These can't be done yet.
     ("ACCOUNT AAAA/2 1.00 NODEBIT", 0, Why::Unbuilt),
+    ("ACCOUNT AAAA/2 1.00 NOCREDIT", 0, Why::Unbuilt),
+    ("ACCOUNT AAAA/2 1.00 NODEBIT NOCREDIT", 0, Why::Unbuilt),
     ("ACCOUNT AAAA/2 9999000000000.01", 0, Why::Unbuilt),
+    ("ADDR new@alpha AAAA/1 NO", 0, Why::Unbuilt),
     ("ADDR new@alpha AAAA/1 ASK", 0, Why::Unbuilt),
+    // Neither can these, but they break a rule of the setup first.
+    ("ACCOUNT CCCC/1 1.00 NODEBIT", 2, Why::NoBank),
+    ("ACCOUNT AAAA/1 9999000000000.01", 2, Why::Twice),
+    ("ADDR ann@alpha AAAA/1 NO", 2, Why::Twice),
+    ("ADDR new@gamma AAAA/1 ASK", 2, Why::NoPsp),
+    ("ADDR new@alpha AAAA/9 ASK", 3, Why::NoAccount),
 ];
 
 // Behind OPEN.
-pub(super) const CALLS: [(&str, u32, Why); 21] = [
+pub(super) const CALLS: [(&str, u32, Why); 26] = [
     ("BANK CCCC", 1, Why::Word),
     ("OPEN", 1, Why::Word),
     ("STOP", 1, Why::Word),
@@ -85,4 +96,24 @@ pub(super) const CALLS: [(&str, u32, Why); 21] = [
     ("REPEAT 1 2", 0, Why::Unbuilt),
     ("LOSE 1", 0, Why::Unbuilt),
     ("TICK 30", 0, Why::Unbuilt),
+    // Nor these, whatever follows their first word.
+    ("DELIVER", 0, Why::Unbuilt),
+    ("DELIVER x", 0, Why::Unbuilt),
+    ("REPEAT 1", 0, Why::Unbuilt),
+    ("LOSE x y", 0, Why::Unbuilt),
+    ("TICK x y", 0, Why::Unbuilt),
+];
+
+// Behind a CLOSE.
+pub(super) const CLOSED_CALLS: [(&str, u32, Why); 3] = [
+    ("STOP", 1, Why::Word),
+    ("CLOSE now", 0, Why::Fields),
+    ("CLOSE", 0, Why::Unbuilt),
+];
+
+// Behind 100 SEND lines.
+pub(super) const SENT_CALLS: [(&str, u32, Why); 3] = [
+    ("SEND alpha", 0, Why::Fields),
+    ("SEND gamma %T1 30.00 bob@beta%", 2, Why::NoPsp),
+    ("SEND alpha %T1 30.00 bob@beta%", 0, Why::Unbuilt),
 ];

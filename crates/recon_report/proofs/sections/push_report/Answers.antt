@@ -2,8 +2,9 @@ use Rattle.std.proofs.Common.{List, ℕ, ◌++◌, ◌∙◌, ap}
 use Rattle.std.specs.List.{flat_map}
 use Rattle.upi_base.specs.declared.setup.SetupLine.{SetupLine}
 use Rattle.upi_replay.specs.declared.rows.Row.{Row}
+use Rattle.upi_replay.specs.Rows.{rows_flight}
 use Rattle.recon_report.specs.Report.{header, flight_line}
-use Rattle.recon_report.specs.ByRows.{row_outcome_line, settle_lines_at, net_line_at, row_recon_line, balance_line_at, rows_flight, report_of_rows}
+use Rattle.recon_report.specs.ByRows.{row_outcome_line, settle_lines_at, net_line_at, row_recon_line, balance_line_at, report_of_rows}
 use Rattle.recon_report.proofs.Joins.{both}
 use Rattle.recon_report.proofs.sections.push_report.Goals as goal
 
@@ -31,4 +32,4 @@ returns c =
     let p4 = both out o3 o4 (header ++ outcomes ++ settled) nets p3 c.in_ok-push_nets.ensures in
     let p5 = both out o4 o5 (header ++ outcomes ++ settled ++ nets) recons p4 c.in_ok-push_reconciliation.ensures in
     let p6 = both out o5 o6 (header ++ outcomes ++ settled ++ nets ++ recons) balances p5 c.in_ok-push_balances.ensures in
-    both out o6 end (header ++ outcomes ++ settled ++ nets ++ recons ++ balances) last p6 (c.in_ok-push_flight.ensures ∙ ap (λ n. o6 ++ flight_line n) c.flight.ensures.sum)
+    both out o6 end (header ++ outcomes ++ settled ++ nets ++ recons ++ balances) last p6 (c.in_ok-push_flight.ensures ∙ ap (λ n. o6 ++ flight_line n) c.all_in_flight.ensures.flight)

@@ -1,6 +1,6 @@
 use Rattle.std.proofs.Common.{arith}
 use Rattle.recon_report.specs.ByRows.{row_received}
-use Rattle.recon_report.proofs.Totals.{sum_more}
+use Rattle.upi_base.proofs.Lists.{sum_more}
 use Rattle.recon_report.proofs.sums.total_received.Goals as goal
 
 pub loop-row-preserved : goal.loop-row-preserved

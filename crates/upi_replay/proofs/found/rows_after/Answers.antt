@@ -1,6 +1,6 @@
 use Rattle.std.proofs.Common.{◌∷◌, [], ◌++◌, ◌∙◌, sym}
 use Rattle.upi_replay.specs.Rows.{row_after}
-use Rattle.upi_replay.proofs.Totals.{map_more}
+use Rattle.upi_base.proofs.Lists.{map_more}
 use Rattle.upi_replay.proofs.found.rows_after.Goals as goal
 
 pub loop-row-preserved : goal.loop-row-preserved

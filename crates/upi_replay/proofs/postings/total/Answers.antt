@@ -1,8 +1,9 @@
 use Rattle.std.proofs.Common.{arith}
-use Rattle.upi_replay.proofs.Totals.{total_more}
+use Rattle.upi_base.proofs.Lists.{sum_more}
+use Rattle.upi_replay.specs.Rows.{row_share}
 use Rattle.upi_replay.proofs.postings.total.Goals as goal
 
 pub loop-row-preserved : goal.loop-row-preserved
 loop-row-preserved c =
-    let more = total_more c.args.setup.now c.args.ac.now c.args.leg c.args.rows.now c.loop-row.row-index c.row-item.result c.loop-row-test.true c.row-item.is in
+    let more = sum_more (row_share c.args.setup.now c.args.ac.now c.args.leg) c.args.rows.now c.loop-row.row-index c.row-item.result c.loop-row-test.true c.row-item.is in
     (omega (arith, more, c.share.ensures.share, c.from-sum.ensures, c.loop-row.invariant.0), omega (arith, c.share.ensures.bound, c.from-sum.ensures, c.loop-row.invariant.1))

@@ -1,4 +1,4 @@
-use Rattle.std.proofs.Common.{◌≡◌, List, false, refl, sym, subst, lit<}
+use Rattle.std.proofs.Common.{List, false, refl, sym, subst, lit<}
 use Rattle.upi_base.specs.declared.entry.Entry.{Entry}
 use Rattle.upi_replay.specs.Rows.{past}
 use Rattle.script_engine.specs.Kept.{IsKept}

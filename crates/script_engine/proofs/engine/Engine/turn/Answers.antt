@@ -1,9 +1,9 @@
-use Rattle.std.proofs.Common.{◌≡◌, ℕ, ◌<◌, ◌≤◌, true, List, [], length, sym, ◌∙◌, ap, subst, arith, refl, append-nil}
+use Rattle.std.proofs.Common.{◌≡◌, ℕ, true, [], length, sym, ◌∙◌, ap, subst, arith, refl, append-nil}
 use Rattle.std.proofs.lemmas.List.{length-reverse}
 use Rattle.upi_base.specs.declared.entry.Call.TheVariants as call
 use Rattle.upi_laws.specs.Legal.{may_come}
 use Rattle.upi_replay.specs.Rows.{past}
-use Rattle.script_engine.specs.Play.{Play, Played, run_turn, lowest_pending, put_call, full_text, after_text}
+use Rattle.script_engine.specs.Play.{Play, run_turn, lowest_pending, put_call, full_text, after_text}
 use Rattle.script_engine.proofs.Turns.{stops_idle, stops_full, goes_on, comes}
 use Rattle.script_engine.proofs.engine.Engine.turn.Goals as goal
 
