@@ -8,7 +8,9 @@ use reasons::{CALLS, CLOSED_CALLS, FIRST, SENT_CALLS, SETUP_LINES};
 use rows::{OPENED, ROWS, SETUP};
 use std::alloc::Global;
 use std::test::Fail;
-use upi_base::{Why, write_number};
+use upi_base::{
+    AccountRef, Addr, BankCode, Paise, Policy, PspName, SetupLine, Why, setup_fault, write_number,
+};
 use upi_io::{MemSink, MemSource};
 
 const START: &str = "START 2024-01-01T05:30:00+05:30\n";
@@ -308,6 +310,68 @@ fn at_most_64_banks_and_64_psps(rt: HostRuntime) -> Result<(), Fail> {
     Ok(())
 }
 
+// The account of a number, at bank AAAA.
+fn account(alloc: Global, number: u64) -> Result<AccountRef, Fail> {
+    let mut text = Vec::from_slice(alloc, b"AAAA/")?;
+    write_number(number, &mut text)?;
+    Ok(AccountRef::read(&text).ok_or("an account")?)
+}
+
+fn account_line(alloc: Global, number: u64) -> Result<SetupLine, Fail> {
+    Ok(SetupLine::Account {
+        ac: account(alloc, number)?,
+        opening: Paise::of(0).ok_or("a sum")?,
+        no_debit: false,
+        no_credit: false,
+    })
+}
+
+fn address_line(alloc: Global, number: u64) -> Result<SetupLine, Fail> {
+    let mut text = Vec::new(alloc);
+    write_number(number, &mut text)?;
+    text.extend_from_slice(b"@alpha")?;
+    Ok(SetupLine::Address {
+        addr: Addr::read(&text).ok_or("an address")?,
+        ac: account(alloc, 0)?,
+        policy: Policy::Yes,
+    })
+}
+
+// These setups are judged and not read: each line of a script is judged by all before it, which takes
+// long for so many.
+#[test]
+fn at_most_65536_accounts_and_65536_addresses(rt: HostRuntime) -> Result<(), Fail> {
+    let alloc = rt.alloc();
+    let mut lines = Vec::new(alloc);
+    lines.push(SetupLine::Bank(BankCode::read(b"AAAA").ok_or("a code")?))?;
+    lines.push(SetupLine::Psp(PspName::read(b"alpha").ok_or("a PSP")?))?;
+    for number in 0..65_536u64 {
+        assert!(rt;
+            number < 65_535 || setup_fault(&lines, &account_line(alloc, number)?).is_none()
+        );
+        lines.push(account_line(alloc, number)?)?;
+    }
+    for (number, why) in [(65_536, Why::Limit), (65_535, Why::Twice)] {
+        assert_eq!(rt;
+            setup_fault(&lines, &account_line(alloc, number)?),
+            Some(why)
+        );
+    }
+    for number in 0..65_536u64 {
+        assert!(rt;
+            number < 65_535 || setup_fault(&lines, &address_line(alloc, number)?).is_none()
+        );
+        lines.push(address_line(alloc, number)?)?;
+    }
+    for (number, why) in [(65_536, Why::Limit), (65_535, Why::Twice)] {
+        assert_eq!(rt;
+            setup_fault(&lines, &address_line(alloc, number)?),
+            Some(why)
+        );
+    }
+    Ok(())
+}
+
 // Payments that are refused count too.
 #[test]
 fn at_most_100_payments(rt: HostRuntime) -> Result<(), Fail> {
@@ -332,6 +396,26 @@ fn at_most_100_payments(rt: HostRuntime) -> Result<(), Fail> {
             why,
         };
         assert_eq!(rt; ran_to(alloc, &input, &output)?, (bad, true), "{text}");
+    }
+    Ok(())
+}
+
+// Lines that are skipped count too.
+#[test]
+fn at_most_16777216_lines(rt: HostRuntime) -> Result<(), Fail> {
+    let alloc = rt.alloc();
+    let mut input = Vec::new(alloc);
+    for _ in 0..16_777_216u64 {
+        input.push(b'\n')?;
+    }
+    for why in [Why::End, Why::Limit] {
+        let bad = Status::BadLine {
+            line: 16_777_217,
+            field: 0,
+            why,
+        };
+        assert_eq!(rt; ran_to(alloc, &input, b"")?, (bad, true));
+        input.push(b'\n')?;
     }
     Ok(())
 }
