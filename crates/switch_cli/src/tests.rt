@@ -68,7 +68,13 @@ const WHOLE: Cut = Cut {
     bad_write: 0,
 };
 
-const PIECES: Cut = Cut { piece: 50, ..WHOLE };
+// An input in about forty pieces, none of them shorter than 50 bytes.
+fn pieces(input: &[u8]) -> Cut {
+    Cut {
+        piece: (input.len() / 40).max(50),
+        ..WHOLE
+    }
+}
 
 // How a run ends, what it writes, and how many reads and writes failed.
 #[derive(Drop)]
@@ -117,7 +123,14 @@ fn line_ends(alloc: Global, input: &[u8]) -> Result<Vec<usize>, Fail> {
 fn read_not_told(alloc: Global, input: &[u8], whole: &Ending) -> Result<Option<u64>, Fail> {
     let ends = line_ends(alloc, input)?;
     for bad_read in 1..1000 {
-        let ending = ran(alloc, input, Cut { bad_read, ..PIECES })?;
+        let ending = ran(
+            alloc,
+            input,
+            Cut {
+                bad_read,
+                ..pieces(input)
+            },
+        )?;
         let is_right = if ending.failed == 0 {
             bad_read > 1 && ending.status == whole.status && ending.text == whole.text
         } else {
@@ -144,7 +157,7 @@ fn write_not_told(alloc: Global, input: &[u8], whole: &Ending) -> Result<Option<
             input,
             Cut {
                 bad_write,
-                ..PIECES
+                ..pieces(input)
             },
         )?;
         let is_right = if ending.failed == 0 {
@@ -305,6 +318,7 @@ fn at_most_64_banks_and_64_psps(rt: HostRuntime) -> Result<(), Fail> {
                 why,
             };
             assert_eq!(rt; ran_to(alloc, &input, &output)?, (bad, true), "{start}");
+            assert_eq!(rt; faults_not_told(alloc, &input)?, (None, None), "{start}");
         }
     }
     Ok(())
@@ -396,6 +410,7 @@ fn at_most_100_payments(rt: HostRuntime) -> Result<(), Fail> {
             why,
         };
         assert_eq!(rt; ran_to(alloc, &input, &output)?, (bad, true), "{text}");
+        assert_eq!(rt; faults_not_told(alloc, &input)?, (None, None), "{text}");
     }
     Ok(())
 }
@@ -437,6 +452,7 @@ fn long_lines(rt: HostRuntime) -> Result<(), Fail> {
         }
         input.extend_from_slice(b"\nSTOP\n")?;
         assert_eq!(rt; ran_to(alloc, &input, START.as_bytes())?, (ends, true));
+        assert_eq!(rt; faults_not_told(alloc, &input)?, (None, None));
     }
     Ok(())
 }
