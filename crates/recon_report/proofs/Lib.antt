@@ -1,2 +1,3 @@
-pub mod Same
+pub mod Banks
 pub mod Joins
+pub mod Read

@@ -1,97 +1,86 @@
--- The report of a history, as the bytes of its lines.
-use Rattle.std.specs.Prelude.{ℕ, ℤ, List, [], ◌∷◌, ◌++◌, codes, Option, Some, None}
+-- The report: its lines, and their bytes as comma-separated values.
+use Rattle.std.specs.Prelude.{ℕ, List, [], ◌∷◌, ◌++◌, codes, Option, Some, None, map}
 use Rattle.std.specs.List.{flat_map}
-use Rattle.upi_base.specs.declared.code.Outcome.{Outcome}
-use Rattle.upi_base.specs.declared.code.Outcome.TheVariants as outcome
-use Rattle.upi_base.specs.declared.entry.Entry.{Entry}
-use Rattle.upi_base.specs.declared.message.PayReq.{PayReq}
-use Rattle.upi_base.specs.declared.settled.Item.{Item}
-use Rattle.upi_base.specs.declared.settled.Recon.{Recon}
-use Rattle.upi_base.specs.declared.settled.Side.{Side}
-use Rattle.upi_base.specs.declared.settled.Side.TheVariants as side
-use Rattle.upi_base.specs.declared.setup.Account.{Account}
-use Rattle.upi_base.specs.declared.setup.SetupLine.{SetupLine}
+use Rattle.csv.specs.Writing.{default_writer, row_text}
 use Rattle.upi_base.specs.Money.{paise_text, sum_text}
-use Rattle.upi_laws.specs.declared.places.Opening.{Opening}
-use Rattle.upi_laws.specs.Places.{opened}
-use Rattle.upi_laws.specs.Outcomes.{outcome_of}
-use Rattle.upi_laws.specs.Postings.{balance, flight}
-use Rattle.upi_laws.specs.Settlement.{settle, net, recon, accounts, banks}
-use Rattle.upi_text.specs.Pieces.{code_text}
+use Rattle.upi_base.specs.Words.{code_text, outcome_word, side_text}
+use Rattle.upi_model.specs.Settlement.{accounts, banks, net_of, recon_items, settlement_items, txn_rows}
+use Rattle.upi_words.specs.Prelude.{Text, Setup, History, Account, AccountRef, Item, Outcome, Recon, TxnRow, balance, flight}
 
--- a field, and the comma behind it
-unfoldable pub field : List ℕ → List ℕ
-field text = text ++ 44 ∷ []
+-- a line: its six fields
+pub record Line : Type 0 where
+  pub kind : Text
+  pub id : Text
+  pub bank : Text
+  pub detail : Text
+  pub amount : Text
+  pub code : Text
 
--- the six fields of a line, and its line feed
-unfoldable pub line_text : List ℕ → List ℕ → List ℕ → List ℕ → List ℕ → List ℕ → List ℕ
-line_text kind id bank detail amount code = field kind ++ field id ++ field bank ++ field detail ++ field amount ++ code ++ 10 ∷ []
+-- the fields of a line, in order
+abbrev pub fields : Line → List Text
+fields l = l.kind ∷ l.id ∷ l.bank ∷ l.detail ∷ l.amount ∷ l.code ∷ []
+
+-- the bytes of a line: its fields with commas between them and a line feed after them. A field that holds a comma, a quote or the end of a line stands in quotes.
+unfoldable pub line_text : Line → List ℕ
+line_text l = row_text default_writer (fields l)
 
 -- the first line: the names of the fields
-abbrev pub header : List ℕ
-header = codes "row,id,bank,detail,amount,code\n"
-
-abbrev pub outcome_word : Outcome → List ℕ
-outcome_word outcome.Success = codes "SUCCESS"
-outcome_word (outcome.Failure c) = codes "FAILURE"
-outcome_word outcome.Deemed = codes "DEEMED"
+abbrev pub header : Line
+header = record { kind = codes "row"; id = codes "id"; bank = codes "bank"; detail = codes "detail"; amount = codes "amount"; code = codes "code" }
 
 -- the code of a failure; empty for the other outcomes
-abbrev pub outcome_code : Outcome → List ℕ
-outcome_code outcome.Success = []
-outcome_code (outcome.Failure c) = code_text c
-outcome_code outcome.Deemed = []
+abbrev pub outcome_code : Outcome → Text
+outcome_code Outcome.Success = []
+outcome_code (Outcome.Failure code) = code_text code
+outcome_code Outcome.Deemed = []
 
--- how a payment ended: no line where it has no outcome
-abbrev pub outcome_line : PayReq → Option Outcome → List ℕ
-outcome_line r None = []
-outcome_line r (Some o) = line_text (codes "OUTCOME") r.txn [] (outcome_word o) (paise_text r.amount) (outcome_code o)
+-- how a transaction of this name and amount ended: no line where it has no outcome
+abbrev pub ended_line : Text → ℕ → Option Outcome → List Line
+ended_line txn amount None = []
+ended_line txn amount (Some outcome) =
+    record { kind = codes "OUTCOME"; id = txn; bank = []; detail = outcome_word outcome; amount = paise_text amount; code = outcome_code outcome } ∷ []
 
--- the outcomes, in opening order
-abbrev pub outcome_lines : List SetupLine → List Entry → List ℕ
-outcome_lines S h = flat_map (λ (o : Opening). outcome_line o.terms (outcome_of S o.terms.txn h)) (opened S h)
-
-abbrev pub side_word : Side → List ℕ
-side_word side.Paid = codes "PAID"
-side_word side.Received = codes "RECEIVED"
+-- how a transaction ended
+abbrev pub outcome_line : TxnRow → List Line
+outcome_line r = ended_line r.txn r.amount r.outcome
 
 -- an item of a bank's settlement list
-abbrev pub settle_line : List ℕ → Item → List ℕ
-settle_line bank i = line_text (codes "SETTLE") i.txn bank (side_word i.side) (paise_text i.amount) []
+abbrev pub settle_line : Text → Item → Line
+settle_line bank i = record { kind = codes "SETTLE"; id = i.txn; bank = bank; detail = side_text i.side; amount = paise_text i.amount; code = [] }
 
--- the settlement lists, bank by bank in setup order
-abbrev pub settle_lines : List SetupLine → List Entry → List ℕ
-settle_lines S h = flat_map (λ (bank : List ℕ). flat_map (settle_line bank) (settle S bank h)) (banks S)
+-- the settlement list of a bank
+abbrev pub settle_lines : List TxnRow → Text → List Line
+settle_lines rows bank = map (settle_line bank) (settlement_items bank rows)
 
 -- what a bank received less what it paid
-abbrev pub net_line : List ℕ → ℤ → List ℕ
-net_line bank n = line_text (codes "NET") [] bank [] (sum_text n) []
+abbrev pub net_line : List TxnRow → Text → Line
+net_line rows bank = record { kind = codes "NET"; id = []; bank = bank; detail = []; amount = sum_text (net_of (settlement_items bank rows)); code = [] }
 
--- the nets, bank by bank in setup order
-abbrev pub net_lines : List SetupLine → List Entry → List ℕ
-net_lines S h = flat_map (λ (bank : List ℕ). net_line bank (net S bank h)) (banks S)
+-- a deemed transaction whose credit didn't move
+abbrev pub recon_line : Recon → Line
+recon_line r = record { kind = codes "RECON"; id = r.txn; bank = r.bank; detail = []; amount = paise_text r.amount; code = [] }
 
--- a deemed payment whose credit didn't move
-abbrev pub recon_line : Recon → List ℕ
-recon_line r = line_text (codes "RECON") r.txn r.bank [] (paise_text r.amount) []
+-- what an account holds
+abbrev pub balance_line : (AccountRef × ℕ) → Line
+balance_line held = record { kind = codes "BALANCE"; id = held.0.num; bank = held.0.bank; detail = []; amount = paise_text held.1; code = [] }
 
--- the reconciliation items, in opening order
-abbrev pub recon_lines : List SetupLine → List Entry → List ℕ
-recon_lines S h = flat_map recon_line (recon S h)
+-- the money in flight
+abbrev pub flight_line : ℕ → Line
+flight_line sum = record { kind = codes "FLIGHT"; id = []; bank = []; detail = []; amount = paise_text sum; code = [] }
 
--- what an account has
-abbrev pub balance_line : Account → ℕ → List ℕ
-balance_line a n = line_text (codes "BALANCE") a.ac.num a.ac.bank [] (paise_text n) []
+-- the whole report: the names of the fields, how transactions ended, the settlement list of each bank, the net of each bank, the reconciliation items, the balances, and the money in flight
+abbrev pub report_lines : List Text → List TxnRow → List (AccountRef × ℕ) → ℕ → List Line
+report_lines banks rows balances flight =
+    header ∷ [] ++ flat_map outcome_line rows ++ flat_map (settle_lines rows) banks ++ map (net_line rows) banks ++ map recon_line (recon_items rows) ++ map balance_line balances ++ flight_line flight ∷ []
 
--- the balances, account by account in setup order
-abbrev pub balance_lines : List SetupLine → List Entry → List ℕ
-balance_lines S h = flat_map (λ (a : Account). balance_line a (balance S a h)) (accounts S)
+-- the bytes of the whole report
+unfoldable pub report_of : List Text → List TxnRow → List (AccountRef × ℕ) → ℕ → List ℕ
+report_of banks rows balances flight = flat_map line_text (report_lines banks rows balances flight)
 
--- money in flight
-abbrev pub flight_line : ℕ → List ℕ
-flight_line n = line_text (codes "FLIGHT") [] [] [] (paise_text n) []
+-- the accounts of a setup with what they hold, in setup order
+abbrev pub balances : Setup → History → List (AccountRef × ℕ)
+balances S h = map (λ (a : Account). (a.ac, balance S a h)) (accounts S)
 
--- the whole report: its header, outcomes, settlement lists, nets, reconciliation items, balances, and money in flight
-unfoldable pub report_text : List SetupLine → List Entry → List ℕ
-report_text S h =
-    header ++ outcome_lines S h ++ settle_lines S h ++ net_lines S h ++ recon_lines S h ++ balance_lines S h ++ flight_line (flight S h)
+-- the report of a history: banks and accounts in setup order, transactions in opening order
+abbrev pub report_text : Setup → History → List ℕ
+report_text S h = report_of (banks S) (txn_rows S h) (balances S h) (flight S h)

@@ -1,12 +1,14 @@
-//! The report of a closed history: a CSV of outcomes, settlement lists, nets, reconciliation items,
-//! balances and money in flight.
+//! The report of a closed history: comma-separated values of outcomes, settlement lists, nets,
+//! reconciliation items, balances and money in flight.
 #![tactic(auto)]
 
+pub mod laws;
 mod lines;
+mod page;
 mod sections;
-mod sums;
+mod whole;
 
-pub use sections::report;
+pub use whole::report;
 
 #[cfg(test)]
 mod tests;

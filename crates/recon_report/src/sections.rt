@@ -1,171 +1,93 @@
-//! The sections of a report, and the whole.
-ghost use Rattle.std.specs.Prelude.{◌≡◌, ◌++◌, List, OnOk, OnErr};
+//! The sections of a report.
+ghost use Rattle.std.specs.Prelude.{◌≡◌, OnOk, map};
 ghost use Rattle.std.specs.List.{flat_map};
-ghost use Rattle.upi_base.specs.declared.entry.Entry.{Entry};
-ghost use Rattle.upi_replay.specs.Rows.{IsFound};
-ghost use Rattle.recon_report.specs.Report.{header, report_text};
-ghost use Rattle.recon_report.specs.ByRows.{row_outcome_line, row_settle_lines, settle_lines_at, net_line_at, row_recon_line, balance_line_at, report_of_rows};
+ghost use Rattle.recon_report.specs.calls.Pages.{Adds, IsAtLine};
+ghost use Rattle.recon_report.specs.Report as Report;
 
-use crate::lines::{push_balance, push_flight, push_net, push_outcome, push_recon, push_settled};
-use crate::sums::net;
-use std::alloc::Global;
-use upi_base::{Account, BankCode, NoMemory, SetupLine};
-use upi_replay::postings::balance;
-use upi_replay::readers::all_in_flight;
-use upi_replay::{Found, Row};
+use crate::lines;
+use crate::page::Page;
+use settlement::Settlement;
+use upi_base::{AccountRef, BankCode, Item, NoMemory, Recon, TxnRow};
 
-fn push_header(out: &mut Vec<u8>) -> Result<(), NoMemory>
-    ensures { OnOk result (out.new.items ≡ out.old.items ++ header) }
-{
-    out.extend_from_slice(b"row,id,bank,detail,amount,code\n")?;
-    Ok(())
-}
-
-fn push_outcomes(rows: &[Row], out: &mut Vec<u8>) -> Result<(), NoMemory>
-    ensures { OnOk result (out.new.items ≡ out.old.items ++ flat_map row_outcome_line rows.now) }
+/// Adds the outcomes.
+pub(crate) fn outcomes(rows: &[TxnRow], page: &mut Page) -> Result<(), NoMemory>
+    requires { IsAtLine page.old.writer }
+    ensures { OnOk result (Adds page.old.writer page.new.writer (flat_map Report.outcome_line rows.now)) }
 {
     for row in rows {
-        push_outcome(row, out)?;
+        lines::outcome_line(row, page)?;
     }
     Ok(())
 }
 
-fn push_bank_settled(
-    setup: &[SetupLine],
-    bank: &BankCode,
-    rows: &[Row],
-    out: &mut Vec<u8>,
+// Adds the items of a bank.
+fn items(bank: &BankCode, items: &[Item], page: &mut Page) -> Result<(), NoMemory>
+    requires { IsAtLine page.old.writer }
+    ensures { OnOk result (Adds page.old.writer page.new.writer (map (Report.settle_line bank.now) items.now)) }
+{
+    for item in items {
+        lines::settle_line(bank, item, page)?;
+    }
+    Ok(())
+}
+
+// Adds the settlement list of a bank.
+fn settled_at(settlement: &Settlement, bank: &BankCode, page: &mut Page) -> Result<(), NoMemory>
+    requires { IsAtLine page.old.writer }
+    ensures { OnOk result (Adds page.old.writer page.new.writer (Report.settle_lines settlement.now bank.now)) }
+{
+    let list = settlement.items(bank)?;
+    items(bank, &list, page)
+}
+
+/// Adds the settlement lists.
+pub(crate) fn settled(
+    settlement: &Settlement,
+    banks: &[BankCode],
+    page: &mut Page,
 ) -> Result<(), NoMemory>
-    ensures { OnOk result (out.new.items ≡ out.old.items ++ flat_map (row_settle_lines setup.now bank.now) rows.now) }
+    requires { IsAtLine page.old.writer }
+    ensures { OnOk result (Adds page.old.writer page.new.writer (flat_map (Report.settle_lines settlement.now) banks.now)) }
 {
-    for row in rows {
-        push_settled(setup, bank, row, out)?;
+    for bank in banks {
+        settled_at(settlement, bank, page)?;
     }
     Ok(())
 }
 
-fn push_settled_at(
-    setup: &[SetupLine],
-    rows: &[Row],
-    line: &SetupLine,
-    out: &mut Vec<u8>,
+/// Adds the nets.
+pub(crate) fn nets(
+    settlement: &Settlement,
+    banks: &[BankCode],
+    page: &mut Page,
 ) -> Result<(), NoMemory>
-    ensures { OnOk result (out.new.items ≡ out.old.items ++ settle_lines_at setup.now rows.now line.now) }
+    requires { IsAtLine page.old.writer }
+    ensures { OnOk result (Adds page.old.writer page.new.writer (map (Report.net_line settlement.now) banks.now)) }
 {
-    match line {
-        SetupLine::Bank(bank) => push_bank_settled(setup, bank, rows, out),
-        _ => Ok(()),
-    }
-}
-
-fn push_settlement(setup: &[SetupLine], rows: &[Row], out: &mut Vec<u8>) -> Result<(), NoMemory>
-    ensures { OnOk result (out.new.items ≡ out.old.items ++ flat_map (settle_lines_at setup.now rows.now) setup.now) }
-{
-    for line in setup {
-        push_settled_at(setup, rows, line, out)?;
+    for bank in banks {
+        lines::net_line(settlement, bank, page)?;
     }
     Ok(())
 }
 
-fn push_net_at(
-    setup: &[SetupLine],
-    rows: &[Row],
-    line: &SetupLine,
-    out: &mut Vec<u8>,
-) -> Result<(), NoMemory>
-    ensures { OnOk result (out.new.items ≡ out.old.items ++ net_line_at setup.now rows.now line.now) }
+/// Adds reconciliation items.
+pub(crate) fn reconciled(items: &[Recon], page: &mut Page) -> Result<(), NoMemory>
+    requires { IsAtLine page.old.writer }
+    ensures { OnOk result (Adds page.old.writer page.new.writer (map Report.recon_line items.now)) }
 {
-    match line {
-        SetupLine::Bank(bank) => push_net(bank, net(setup, bank, rows), out),
-        _ => Ok(()),
-    }
-}
-
-fn push_nets(setup: &[SetupLine], rows: &[Row], out: &mut Vec<u8>) -> Result<(), NoMemory>
-    ensures { OnOk result (out.new.items ≡ out.old.items ++ flat_map (net_line_at setup.now rows.now) setup.now) }
-{
-    for line in setup {
-        push_net_at(setup, rows, line, out)?;
+    for item in items {
+        lines::recon_line(item, page)?;
     }
     Ok(())
 }
 
-fn push_reconciliation(setup: &[SetupLine], rows: &[Row], out: &mut Vec<u8>) -> Result<(), NoMemory>
-    ensures { OnOk result (out.new.items ≡ out.old.items ++ flat_map (row_recon_line setup.now) rows.now) }
+/// Adds balances.
+pub(crate) fn balances(held: &[(AccountRef, u64)], page: &mut Page) -> Result<(), NoMemory>
+    requires { IsAtLine page.old.writer }
+    ensures { OnOk result (Adds page.old.writer page.new.writer (map Report.balance_line held.now)) }
 {
-    for row in rows {
-        push_recon(setup, row, out)?;
+    for one in held {
+        lines::balance_line(one, page)?;
     }
-    Ok(())
-}
-
-fn push_balance_at(
-    setup: &[SetupLine],
-    rows: &[Row],
-    line: &SetupLine,
-    out: &mut Vec<u8>,
-) -> Result<(), NoMemory>
-    ensures { OnOk result (out.new.items ≡ out.old.items ++ balance_line_at setup.now rows.now line.now) }
-{
-    match line {
-        SetupLine::Account {
-            ac,
-            opening,
-            no_debit,
-            no_credit,
-        } => {
-            let account = Account {
-                ac: ac.copy(),
-                opening: *opening,
-                no_debit: *no_debit,
-                no_credit: *no_credit,
-            };
-            push_balance(&account, balance(setup, rows, &account), out)
-        }
-        _ => Ok(()),
-    }
-}
-
-fn push_balances(setup: &[SetupLine], rows: &[Row], out: &mut Vec<u8>) -> Result<(), NoMemory>
-    ensures { OnOk result (out.new.items ≡ out.old.items ++ flat_map (balance_line_at setup.now rows.now) setup.now) }
-{
-    for line in setup {
-        push_balance_at(setup, rows, line, out)?;
-    }
-    Ok(())
-}
-
-fn push_report(setup: &[SetupLine], rows: &[Row], out: &mut Vec<u8>) -> Result<(), NoMemory>
-    ensures { OnOk result (out.new.items ≡ out.old.items ++ report_of_rows setup.now rows.now) }
-{
-    push_header(out)?;
-    push_outcomes(rows, out)?;
-    push_settlement(setup, rows, out)?;
-    push_nets(setup, rows, out)?;
-    push_reconciliation(setup, rows, out)?;
-    push_balances(setup, rows, out)?;
-    push_flight(all_in_flight(rows), out)?;
-    Ok(())
-}
-
-/// Appends the report of a history of which this was found, behind this setup.
-///
-/// Each line has six fields (`row,id,bank,detail,amount,code`, the names of the first line), amounts
-/// with two decimals, a line feed at its end: `OUTCOME`s in opening order; `SETTLE`s, `PAID` before
-/// `RECEIVED`, by bank in setup order and there in opening order; a `NET` for each bank; `RECON`s in
-/// opening order, at the payee's bank; a `BALANCE` for each account in setup order; and `FLIGHT`. It
-/// fails only for want of memory, and then changes nothing.
-pub fn report(
-    alloc: Global,
-    setup: &[SetupLine],
-    found: &Found,
-    out: &mut Vec<u8>,
-) -> Result<(), NoMemory>
-    ensures ok { (h : List Entry) → IsFound setup.now h found.now → OnOk result (out.new.items ≡ out.old.items ++ report_text setup.now h) }
-    ensures err { OnErr result (out.new.items ≡ out.old.items) }
-{
-    let mut text = Vec::new(alloc);
-    push_report(setup, &found.rows, &mut text)?;
-    out.extend_from_slice(&text)?;
     Ok(())
 }

@@ -1,4 +1,4 @@
-pub mod Plains
-pub mod Nexts
-pub mod Keeping
-pub mod Turns
+pub mod Marked
+pub mod Trying
+pub mod Engines
+pub mod Written

@@ -1,4 +1,6 @@
 pub mod Script
 pub mod Play
-pub mod Kept
 pub mod End
+pub mod Engine
+pub mod Writing
+pub mod calls

@@ -1,110 +1,59 @@
-//! What a line of a script says.
-ghost use Rattle.std.specs.Prelude.{◌≡◌, ℕ, IfOk, List, true, option_map};
-ghost use Rattle.upi_base.specs.declared.message.Message.TheVariants as message;
-ghost use Rattle.upi_msg.specs.Plain.{plain_in};
+//! What a line of a script says behind OPEN.
+ghost use Rattle.std.specs.Prelude.{◌≡◌, ◌+◌, IfOk, List, true};
+ghost use Rattle.std.specs.Str.{bytes_eq, is_utf8};
 ghost use Rattle.upi_base.specs.Setup.{has_psp};
-ghost use Rattle.script_engine.specs.Kept.{IsKnown, IsSetupLine};
-ghost use Rattle.std.specs.Str.{bytes_eq, is_utf8 as is_utf8_of};
 ghost use Rattle.upi_text.specs.Words.{words, number_of};
-ghost use Rattle.script_engine.specs.Script.{unbuilt as unbuilt_of, is_yes as is_yes_of, is_built_line as is_built_line_of, is_built as is_built_of, setup_part as setup_part_of, command_of as command_of_word, sender as sender_of, sent_line as sent_line_of, send_line as send_line_of, in_thousand as in_thousand_of, run_line as run_line_of, close_line as close_line_of, commanded as commanded_of, call_part as call_part_of};
+ghost use Rattle.script_engine.specs.Script.{within, verb_of, sender, send_line, number_line, repeat_line, run_line, raised, tick_line, close_line, line_of, call_read};
+ghost use Rattle.script_engine.specs.calls.Reading.{MayPlay, ReadAs};
 
 use std::alloc::Global;
 use std::str;
-use upi_base::{Message, NoMemory, Policy, PspName, SetupLine, Why, has_psp};
-use upi_msg::read_plain;
-use upi_text::{Refusal, SetupRead, SetupText, from_word, is_skipped, number, word, word_count};
+use upi_base::{EngineFault, Input, Moment, PspName, SetupLine, Why, has_psp};
+use upi_msg::read;
+use upi_text::{Refusal, from_word, is_skipped, number, word, word_count};
 
-/// What a line behind OPEN calls for.
+/// What the first word of a line calls for.
 #[derive(Clone, Copy, Debug, PartialEq, Eq)]
-pub(crate) enum Command {
+pub(crate) enum Verb {
     Send,
+    Deliver,
+    Repeat,
+    Lose,
     Run,
+    Tick,
     Close,
-    /// It can't be done yet.
-    Later,
 }
 
-/// What a line of a script says.
+/// What a line behind OPEN says.
 #[derive(Drop)]
-pub enum ScriptRead {
-    /// A line of the setup, or one that is passed over.
-    Setup(SetupRead),
-    /// SEND: a PSP asks for a payment.
-    Send { psp: PspName, message: Message },
-    /// RUN: all pending messages are delivered.
-    Run,
+pub enum Command {
+    /// Nothing: the line is passed over.
+    Skipped,
+    /// SEND: a PSP of the setup sends something.
+    Send { psp: PspName, input: Input },
+    /// DELIVER: the message of this number is delivered.
+    Deliver(u64),
+    /// REPEAT: the message of a number is delivered so many times, 1 to 1,000.
+    Repeat { n: u64, times: u64 },
+    /// LOSE: the message of this number is lost.
+    Lose(u64),
+    /// RUN: the pending messages are taken, lowest first. Every `k`th is lost and every `r`th
+    /// delivered twice, each 0 to 1,000; 0 stands for none.
+    Run { k: u64, r: u64 },
+    /// TICK: the current moment is raised to this one.
+    Tick(Moment),
     /// CLOSE: the switch closes.
     Close,
 }
 
-/// How many payments a script may send so far.
-const MAX_SENDS: u32 = 100;
+/// How often REPEAT delivers at most.
+const MAX_TIMES: u64 = 1_000;
 
-/// The greatest opening balance so far, in paise.
-const MAX_OPENING: u64 = 999_900_000_000_000;
+/// The greatest number that RUN takes.
+const MAX_DIVISOR: u64 = 1_000;
 
-fn unbuilt() -> Refusal
-    ensures { result ≡ unbuilt_of }
-{
-    Refusal {
-        field: 0,
-        why: Why::Unbuilt,
-    }
-}
-
-fn is_yes(policy: Policy) -> bool
-    ensures { result ≡ is_yes_of policy }
-{
-    match policy {
-        Policy::Yes => true,
-        Policy::No => false,
-        Policy::Ask => false,
-    }
-}
-
-fn is_built_line(line: &SetupLine) -> bool
-    ensures { result ≡ is_built_line_of line.now }
-{
-    match line {
-        SetupLine::Bank(_) => true,
-        SetupLine::Psp(_) => true,
-        SetupLine::Account {
-            ac: _ac,
-            opening,
-            no_debit,
-            no_credit,
-        } => !*no_debit && !*no_credit && opening.get() <= MAX_OPENING,
-        SetupLine::Address {
-            addr: _addr,
-            ac: _ac,
-            policy,
-        } => is_yes(*policy),
-    }
-}
-
-fn is_built(read: &SetupRead) -> bool
-    ensures { result ≡ is_built_of read.now }
-{
-    match read {
-        SetupRead::Skipped => true,
-        SetupRead::Start(_) => true,
-        SetupRead::Line(line) => is_built_line(line),
-        SetupRead::Open => true,
-    }
-}
-
-/// What a line says before OPEN was read.
-pub(crate) fn setup_part(setup: &SetupText, line: &[u8]) -> Result<ScriptRead, Refusal>
-    ensures line { result ≡ setup_part_of setup.now line.now }
-    ensures setup { IfOk result IsSetupLine }
-{
-    let read = setup.read(line)?;
-    if is_built(&read) {
-        Ok(ScriptRead::Setup(read))
-    } else {
-        Err(unbuilt())
-    }
-}
+/// By how many seconds TICK raises the moment at most.
+const MAX_SECONDS: u64 = 100_000_000;
 
 fn is(word: &[u8], text: &[u8]) -> bool
     ensures { result ≡ bytes_eq word.now text.now }
@@ -112,30 +61,48 @@ fn is(word: &[u8], text: &[u8]) -> bool
     word == text
 }
 
-#[tactic(auto, unfolding(crate::specs::Script::command_of))]
-fn command_of(word: &[u8]) -> Option<Command>
-    ensures { result ≡ command_of_word word.now }
+#[tactic(auto, unfolding(crate::specs::Script::verb_of))]
+fn verb_of(word: &[u8]) -> Option<Verb>
+    ensures { result ≡ verb_of word.now }
 {
     if is(word, b"SEND") {
-        Some(Command::Send)
+        Some(Verb::Send)
+    } else if is(word, b"DELIVER") {
+        Some(Verb::Deliver)
+    } else if is(word, b"REPEAT") {
+        Some(Verb::Repeat)
+    } else if is(word, b"LOSE") {
+        Some(Verb::Lose)
     } else if is(word, b"RUN") {
-        Some(Command::Run)
+        Some(Verb::Run)
+    } else if is(word, b"TICK") {
+        Some(Verb::Tick)
     } else if is(word, b"CLOSE") {
-        Some(Command::Close)
-    } else if is(word, b"DELIVER")
-        || is(word, b"REPEAT")
-        || is(word, b"LOSE")
-        || is(word, b"TICK")
-    {
-        Some(Command::Later)
+        Some(Verb::Close)
     } else {
         None
     }
 }
 
+/// The number that a word spells, if it lies from the least to the most.
+fn number_within(text: &[u8], least: u64, most: u64) -> Option<u64>
+    ensures { result ≡ within least most (number_of text.now) }
+{
+    match number(text) {
+        None => None,
+        Some(n) => {
+            if least <= n && n <= most {
+                Some(n)
+            } else {
+                None
+            }
+        }
+    }
+}
+
 /// The PSP of a SEND line.
 fn sender(lines: &[SetupLine], line: &[u8]) -> Result<PspName, Refusal>
-    ensures sender { result ≡ sender_of lines.now (words line.now) }
+    ensures sender { result ≡ sender lines.now (words line.now) }
     ensures known { IfOk result (λ psp. has_psp lines.now psp ≡ true) }
 {
     match PspName::read(word(line, 1)) {
@@ -153,101 +120,115 @@ fn sender(lines: &[SetupLine], line: &[u8]) -> Result<PspName, Refusal>
     }
 }
 
-fn sent_line(sends: u32, psp: PspName, message: Option<Message>) -> Result<ScriptRead, Refusal>
-    ensures line { result ≡ sent_line_of sends psp message }
-    ensures known { (S : List SetupLine) → has_psp S psp ≡ true → IfOk result (IsKnown S sends) }
+#[tactic(auto, unfolding(crate::specs::Script::send_line))]
+fn send_line(alloc: Global, lines: &[SetupLine], line: &[u8]) -> Result<Command, EngineFault>
+    ensures line { ReadAs (send_line lines.now line.now) result }
+    ensures known { IfOk result (MayPlay lines.now) }
 {
-    match message {
-        None => Err(unbuilt()),
-        Some(message) => {
-            if sends < MAX_SENDS {
-                Ok(ScriptRead::Send { psp, message })
+    let text = from_word(line, 2);
+    if text.len() == 0 {
+        return Err(Refusal::other_fields().into());
+    }
+    let psp = sender(lines, line)?;
+    Ok(Command::Send {
+        psp,
+        input: read(alloc, text)?,
+    })
+}
+
+/// The number of a line of two words.
+#[tactic(auto, unfolding(crate::specs::Script::number_line))]
+fn number_line(line: &[u8]) -> Result<u64, Refusal>
+    ensures { result ≡ number_line (words line.now) }
+{
+    if word_count(line) != 2 {
+        return Err(Refusal::other_fields());
+    }
+    match number(word(line, 1)) {
+        None => Err(Refusal::value(2)),
+        Some(n) => Ok(n),
+    }
+}
+
+#[tactic(auto, unfolding(crate::specs::Script::repeat_line))]
+fn repeat_line(line: &[u8]) -> Result<(u64, u64), Refusal>
+    ensures { result ≡ repeat_line (words line.now) }
+{
+    if word_count(line) != 3 {
+        return Err(Refusal::other_fields());
+    }
+    let Some(n) = number(word(line, 1)) else {
+        return Err(Refusal::value(2));
+    };
+    let Some(times) = number_within(word(line, 2), 1, MAX_TIMES) else {
+        return Err(Refusal::value(3));
+    };
+    Ok((n, times))
+}
+
+#[tactic(auto, unfolding(crate::specs::Script::run_line))]
+fn run_line(line: &[u8]) -> Result<(u64, u64), Refusal>
+    ensures { result ≡ run_line (words line.now) }
+{
+    let count = word_count(line);
+    if count == 1 {
+        return Ok((0, 0));
+    }
+    if count != 3 {
+        return Err(Refusal::other_fields());
+    }
+    let Some(k) = number_within(word(line, 1), 0, MAX_DIVISOR) else {
+        return Err(Refusal::value(2));
+    };
+    let Some(r) = number_within(word(line, 2), 0, MAX_DIVISOR) else {
+        return Err(Refusal::value(3));
+    };
+    Ok((k, r))
+}
+
+/// The moment to which so many seconds raise another, if it is a moment.
+fn raised(now: Moment, seconds: Option<u64>) -> Option<Moment>
+    ensures { result ≡ raised now seconds }
+{
+    match seconds {
+        None => None,
+        Some(seconds) => {
+            if seconds <= MAX_SECONDS {
+                Moment::of(now.get() + seconds)
             } else {
-                Err(unbuilt())
+                None
             }
         }
     }
 }
 
-/// The plain payment that a text is the written form of.
-fn plain(alloc: Global, text: &[u8]) -> Result<Option<Message>, NoMemory>
-    ensures { IfOk result (λ o. o ≡ option_map message.Pay (plain_in text.now)) }
+#[tactic(auto, unfolding(crate::specs::Script::tick_line))]
+fn tick_line(now: Moment, line: &[u8]) -> Result<Moment, Refusal>
+    ensures { result ≡ tick_line now (words line.now) }
 {
-    let message = read_plain(alloc, text)?;
-    Ok(message)
-}
-
-#[tactic(auto, unfolding(crate::specs::Script::send_line))]
-fn send_line(
-    alloc: Global,
-    lines: &[SetupLine],
-    sends: u32,
-    line: &[u8],
-) -> Result<Result<ScriptRead, Refusal>, NoMemory>
-    ensures line { IfOk result (λ r. r ≡ send_line_of lines.now sends line.now) }
-    ensures known { IfOk result (λ r. IfOk r (IsKnown lines.now sends)) }
-{
-    let text = from_word(line, 2);
-    if text.len() == 0 {
-        return Ok(Err(Refusal::other_fields()));
+    if word_count(line) != 2 {
+        return Err(Refusal::other_fields());
     }
-    match sender(lines, line) {
-        Err(refusal) => Ok(Err(refusal)),
-        Ok(psp) => {
-            let message = plain(alloc, text)?;
-            Ok(sent_line(sends, psp, message))
-        }
-    }
-}
-
-/// A number that RUN takes.
-fn in_thousand(text: &[u8]) -> Option<u64>
-    ensures { result ≡ in_thousand_of (number_of text.now) }
-{
-    match number(text) {
-        None => None,
-        Some(n) => { if n <= 1000 { Some(n) } else { None } }
-    }
-}
-
-#[tactic(auto, unfolding(crate::specs::Script::run_line))]
-fn run_line(line: &[u8]) -> Result<ScriptRead, Refusal>
-    ensures line { result ≡ run_line_of (words line.now) }
-    ensures known { (S : List SetupLine) (n : ℕ) → IfOk result (IsKnown S n) }
-{
-    let count = word_count(line);
-    if count == 1 {
-        Ok(ScriptRead::Run)
-    } else if count == 3 {
-        if in_thousand(word(line, 1)).is_none() {
-            Err(Refusal::value(2))
-        } else if in_thousand(word(line, 2)).is_none() {
-            Err(Refusal::value(3))
-        } else {
-            Err(unbuilt())
-        }
-    } else {
-        Err(Refusal::other_fields())
+    match raised(now, number(word(line, 1))) {
+        None => Err(Refusal::value(2)),
+        Some(moment) => Ok(moment),
     }
 }
 
 #[tactic(auto, unfolding(crate::specs::Script::close_line))]
-fn close_line(closes: bool, line: &[u8]) -> Result<ScriptRead, Refusal>
-    ensures line { result ≡ close_line_of closes (words line.now) }
-    ensures known { (S : List SetupLine) (n : ℕ) → IfOk result (IsKnown S n) }
+fn close_line(line: &[u8]) -> Result<(), Refusal>
+    ensures { result ≡ close_line (words line.now) }
 {
-    if word_count(line) != 1 {
-        Err(Refusal::other_fields())
-    } else if closes {
-        Err(unbuilt())
+    if word_count(line) == 1 {
+        Ok(())
     } else {
-        Ok(ScriptRead::Close)
+        Err(Refusal::other_fields())
     }
 }
 
 #[tactic(auto, using(upi_base::proofs::Utf8::utf8_yes, upi_base::proofs::Utf8::utf8_no))]
 fn is_utf8(text: &[u8]) -> bool
-    ensures { result ≡ is_utf8_of text.now }
+    ensures { result ≡ is_utf8 text.now }
 {
     match str::from_utf8(text) {
         Ok(_) => true,
@@ -255,43 +236,53 @@ fn is_utf8(text: &[u8]) -> bool
     }
 }
 
-fn commanded(
+fn line_of(
     alloc: Global,
     lines: &[SetupLine],
-    sends: u32,
-    closes: bool,
+    now: Moment,
     line: &[u8],
-    command: Option<Command>,
-) -> Result<Result<ScriptRead, Refusal>, NoMemory>
-    ensures line { IfOk result (λ r. r ≡ commanded_of lines.now sends closes line.now command) }
-    ensures known { IfOk result (λ r. IfOk r (IsKnown lines.now sends)) }
+    verb: Option<Verb>,
+) -> Result<Command, EngineFault>
+    ensures line { ReadAs (line_of lines.now now line.now verb) result }
+    ensures known { IfOk result (MayPlay lines.now) }
 {
-    match command {
-        None => Ok(Err(Refusal::no_command())),
-        Some(Command::Send) => send_line(alloc, lines, sends, line),
-        Some(Command::Run) => Ok(run_line(line)),
-        Some(Command::Close) => Ok(close_line(closes, line)),
-        Some(Command::Later) => Ok(Err(unbuilt())),
+    match verb {
+        None => Err(Refusal::no_command().into()),
+        Some(Verb::Send) => send_line(alloc, lines, line),
+        Some(Verb::Deliver) => Ok(Command::Deliver(number_line(line)?)),
+        Some(Verb::Repeat) => {
+            let (n, times) = repeat_line(line)?;
+            Ok(Command::Repeat { n, times })
+        }
+        Some(Verb::Lose) => Ok(Command::Lose(number_line(line)?)),
+        Some(Verb::Run) => {
+            let (k, r) = run_line(line)?;
+            Ok(Command::Run { k, r })
+        }
+        Some(Verb::Tick) => Ok(Command::Tick(tick_line(now, line)?)),
+        Some(Verb::Close) => {
+            close_line(line)?;
+            Ok(Command::Close)
+        }
     }
 }
 
-/// What a line says behind OPEN, where so many payments were sent and a CLOSE was read or not.
-pub(crate) fn call_part(
+/// What a line says behind OPEN, over this setup and at this current moment. A PSP that sends is
+/// of the setup.
+pub(crate) fn call_read(
     alloc: Global,
     lines: &[SetupLine],
-    sends: u32,
-    closes: bool,
+    now: Moment,
     line: &[u8],
-) -> Result<Result<ScriptRead, Refusal>, NoMemory>
-    ensures line { IfOk result (λ r. r ≡ call_part_of lines.now sends closes line.now) }
-    ensures known { IfOk result (λ r. IfOk r (IsKnown lines.now sends)) }
+) -> Result<Command, EngineFault>
+    ensures line { ReadAs (call_read lines.now now line.now) result }
+    ensures known { IfOk result (MayPlay lines.now) }
 {
     if is_skipped(line) {
-        return Ok(Ok(ScriptRead::Setup(SetupRead::Skipped)));
+        return Ok(Command::Skipped);
     }
     if !is_utf8(line) {
-        return Ok(Err(Refusal::not_utf8()));
+        return Err(Refusal::not_utf8().into());
     }
-    let command = command_of(word(line, 0));
-    commanded(alloc, lines, sends, closes, line, command)
+    line_of(alloc, lines, now, line, verb_of(word(line, 0)))
 }

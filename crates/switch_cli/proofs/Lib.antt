@@ -1,5 +1,7 @@
 pub mod Cuts
-pub mod Setups
+pub mod Ends
+pub mod Journals
 pub mod Plays
 pub mod Runs
+pub mod Trust
 pub mod Wholes

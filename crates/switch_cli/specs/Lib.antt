@@ -1,3 +1,3 @@
 pub mod Lines
 pub mod Run
-pub mod Steps
+pub mod calls

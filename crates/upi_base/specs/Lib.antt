@@ -1,6 +1,9 @@
+pub mod Names
 pub mod Lists
 pub mod Texts
+pub mod Versions
 pub mod Money
+pub mod Words
 pub mod Time
 pub mod Setup
 pub mod Shards

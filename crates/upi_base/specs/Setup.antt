@@ -11,6 +11,7 @@ use Rattle.upi_base.specs.declared.setup.SetupLine.TheVariants as line
 use Rattle.upi_base.specs.declared.fault.Why.{Why}
 use Rattle.upi_base.specs.declared.fault.Why.TheVariants as why
 use Rattle.upi_base.specs.Lists.{when, pick}
+use Rattle.upi_base.specs.declared.limits.TheConstants.{MAX_ACCOUNTS, MAX_ADDRESSES, MAX_BANKS, MAX_PSPS}
 use Rattle.upi_base.specs.Money.{max_paise}
 
 -- both are one account: one bank, and one number there
@@ -86,14 +87,14 @@ account_at S addr = option_and_then (λ (l : Listing). account_named S l.ac) (li
 abbrev pub bank_fault : List SetupLine → List ℕ → Option Why
 bank_fault S code =
     if has_bank S code then Some why.Twice
-    else if nat_le 64 (count_by is_bank_line S) then Some why.Limit
+    else if nat_le MAX_BANKS (count_by is_bank_line S) then Some why.Limit
     else None
 
 -- why a PSP is refused: its name was given, or there are 64 PSPs
 abbrev pub psp_fault : List SetupLine → List ℕ → Option Why
 psp_fault S name =
     if has_psp S name then Some why.Twice
-    else if nat_le 64 (count_by is_psp_line S) then Some why.Limit
+    else if nat_le MAX_PSPS (count_by is_psp_line S) then Some why.Limit
     else None
 
 -- why an account is refused: its bank wasn't given, the account was, or there are 65,536 accounts
@@ -101,7 +102,7 @@ abbrev pub account_fault : List SetupLine → AccountRef → Option Why
 account_fault S ac =
     if not (has_bank S ac.bank) then Some why.NoBank
     else if is_some (account_named S ac) then Some why.Twice
-    else if nat_le 65_536 (count_by is_account_line S) then Some why.Limit
+    else if nat_le MAX_ACCOUNTS (count_by is_account_line S) then Some why.Limit
     else None
 
 -- why an address is refused: it was given, its PSP or its account wasn't, or there are 65,536 addresses
@@ -110,7 +111,7 @@ address_fault S addr ac =
     if is_some (listing_at S addr) then Some why.Twice
     else if not (has_psp S (provider addr)) then Some why.NoPsp
     else if is_none (account_named S ac) then Some why.NoAccount
-    else if nat_le 65_536 (count_by is_address_line S) then Some why.Limit
+    else if nat_le MAX_ADDRESSES (count_by is_address_line S) then Some why.Limit
     else None
 
 -- why a line is refused behind those lines, if it is

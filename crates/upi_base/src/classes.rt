@@ -1,7 +1,7 @@
 //! Classes of bytes.
 ghost use Rattle.std.specs.Prelude.{◌≡◌, ◌≤◌, ℕ, Bool, length};
 ghost use Rattle.std.specs.List.{list_all, prefix_len};
-ghost use Rattle.std.specs.Char.{is_ascii_alphanumeric, is_ascii_uppercase};
+ghost use Rattle.std.specs.Char.{is_ascii_alphanumeric, is_ascii_uppercase, is_ascii_digit};
 ghost use Rattle.upi_base.specs.Texts.{is_name_byte, is_psp_byte, is_path_byte, is_plain_byte};
 
 /// A class of bytes.
@@ -79,6 +79,17 @@ impl Class for Alnum {
 
     fn has(c: u8) -> bool {
         c.is_ascii_alphanumeric()
+    }
+}
+
+/// Digits.
+pub(crate) struct Digit;
+
+impl Class for Digit {
+    ghost has = { is_ascii_digit };
+
+    fn has(c: u8) -> bool {
+        c.is_ascii_digit()
     }
 }
 

@@ -9,8 +9,17 @@ pub enum Kind {
     Collect,
 }
 
-/// A posting at a bank.
+/// The version of a message (`Head.ver`).
 #[derive(Clone, Copy, Debug, PartialEq, Eq)]
+pub enum Ver {
+    /// 1.0.
+    One,
+    /// 2.0: a payment has two members more, `Txn.initiationMode` and `Txn.purpose`.
+    Two,
+}
+
+/// A posting at a bank.
+#[derive(Clone, Copy, Debug, PartialEq, Eq, Hash)]
 pub enum Leg {
     /// Takes the amount from the payer's account.
     Debit,

@@ -5,6 +5,7 @@ ghost use Rattle.upi_base.specs.Lists.{pick};
 ghost use Rattle.upi_base.specs.Setup.{account_in, listing_in, names_bank, names_psp, is_bank_line, is_psp_line, is_account_line, is_address_line, same_account as same_account_of, provider as provider_of, has_bank as has_bank_of, has_psp as has_psp_of, account_named as account_named_of, listing_at as listing_at_of, account_at as account_at_of, bank_fault as bank_fault_of, psp_fault as psp_fault_of, account_fault as account_fault_of, address_fault as address_fault_of, setup_fault as setup_fault_of};
 
 use crate::fault::Why;
+use crate::limits::{MAX_ACCOUNTS, MAX_ADDRESSES, MAX_BANKS, MAX_PSPS};
 use crate::setup::{Account, AccountRef, Listing, SetupLine};
 use crate::{Addr, BankCode, PspName};
 
@@ -134,7 +135,7 @@ fn bank_fault(lines: &[SetupLine], code: &BankCode) -> Option<Why>
 {
     if has_bank(lines, code) {
         Some(Why::Twice)
-    } else if lines.iter().filter(|l| is_bank(l)).count() >= 64 {
+    } else if lines.iter().filter(|l| is_bank(l)).count() >= MAX_BANKS {
         Some(Why::Limit)
     } else {
         None
@@ -146,7 +147,7 @@ fn psp_fault(lines: &[SetupLine], name: &PspName) -> Option<Why>
 {
     if has_psp(lines, name.bytes()) {
         Some(Why::Twice)
-    } else if lines.iter().filter(|l| is_psp(l)).count() >= 64 {
+    } else if lines.iter().filter(|l| is_psp(l)).count() >= MAX_PSPS {
         Some(Why::Limit)
     } else {
         None
@@ -160,7 +161,7 @@ fn account_fault(lines: &[SetupLine], ac: &AccountRef) -> Option<Why>
         Some(Why::NoBank)
     } else if account_named(lines, ac).is_some() {
         Some(Why::Twice)
-    } else if lines.iter().filter(|l| is_account(l)).count() >= 65_536 {
+    } else if lines.iter().filter(|l| is_account(l)).count() >= MAX_ACCOUNTS {
         Some(Why::Limit)
     } else {
         None
@@ -176,7 +177,7 @@ fn address_fault(lines: &[SetupLine], addr: &Addr, ac: &AccountRef) -> Option<Wh
         Some(Why::NoPsp)
     } else if account_named(lines, ac).is_none() {
         Some(Why::NoAccount)
-    } else if lines.iter().filter(|l| is_address(l)).count() >= 65_536 {
+    } else if lines.iter().filter(|l| is_address(l)).count() >= MAX_ADDRESSES {
         Some(Why::Limit)
     } else {
         None

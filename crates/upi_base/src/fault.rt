@@ -40,8 +40,6 @@ pub enum Why {
     Limit,
     /// The input ended before OPEN.
     End,
-    /// It can't be done yet.
-    Unbuilt,
 }
 
 /// Why an engine refused a line.
@@ -56,4 +54,15 @@ pub enum EngineFault {
     },
     /// There was no memory. The engine isn't to be used any more.
     NoMemory,
+}
+
+impl From<NoMemory> for EngineFault {
+    ghost use Rattle.std.specs.Prelude.{◌≡◌};
+    ghost use Rattle.upi_base.specs.declared.fault.EngineFault.TheVariants as fault;
+
+    ghost from_gives = { λ _ e. e ≡ fault.NoMemory };
+
+    fn from(_: NoMemory) -> EngineFault {
+        EngineFault::NoMemory
+    }
 }

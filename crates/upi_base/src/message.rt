@@ -1,17 +1,18 @@
 //! The messages that a PSP sends, as they were read.
-ghost use Rattle.std.specs.Prelude.{◌≡◌, IfOk};
+ghost use Rattle.std.specs.Prelude.{◌≡◌, ⊤, IfOk, is_some};
+ghost use Rattle.upi_base.specs.Versions.{is_two};
 
 use crate::boxed::Boxed;
-use crate::code::Kind;
+use crate::code::{Kind, Ver};
 use crate::fault::NoMemory;
 use crate::minutes::Minutes;
 use crate::moment::Moment;
 use crate::paise::Paise;
 use crate::setup::AccountRef;
-use crate::{Addr, MsgId, Note, OrgId, PathText, TxnId};
-use std::alloc::Global;
+use crate::{Addr, MsgId, Note, OrgId, PathText, TwoDigits, TxnId};
+use std::alloc::{AllocError, Global};
 
-/// The head of a message (`Head`): its name, who sends it and when. The version is always 1.0.
+/// The head of a message (`Head`): its name, who sends it and when, and its version.
 #[derive(Clone, Drop, PartialEq, Eq)]
 pub struct Head {
     /// `Head.msgId`: the name that its sender gave it.
@@ -20,6 +21,8 @@ pub struct Head {
     pub org: OrgId,
     /// `Head.ts`: the moment that its sender gives, in seconds since 1970-01-01T00:00:00Z.
     pub ts: Moment,
+    /// `Head.ver`.
+    pub ver: Ver,
 }
 
 impl Head {
@@ -31,7 +34,39 @@ impl Head {
             msg_id: self.msg_id.copy(),
             org: self.org.copy(),
             ts: self.ts,
+            ver: self.ver,
         }
+    }
+}
+
+/// What a payment of version 2.0 has besides. No rule reads it but that of a repeated payment.
+#[derive(Clone, Drop, PartialEq, Eq)]
+pub struct Extra {
+    /// `Txn.initiationMode`, `00` where it is absent.
+    pub mode: TwoDigits,
+    /// `Txn.purpose`, `00` where it is absent.
+    pub purpose: TwoDigits,
+}
+
+impl Extra {
+    /// The same.
+    pub fn copy(&self) -> Extra
+        ensures { result ≡ self.now }
+    {
+        Extra {
+            mode: self.mode.copy(),
+            purpose: self.purpose.copy(),
+        }
+    }
+}
+
+/// The same, where there is one.
+pub fn copy_extra(extra: &Option<Extra>) -> Option<Extra>
+    ensures { result ≡ extra.now }
+{
+    match extra {
+        None => None,
+        Some(extra) => Some(extra.copy()),
     }
 }
 
@@ -45,8 +80,8 @@ fn copy_account(ac: &Option<AccountRef>) -> Option<AccountRef>
     }
 }
 
-// The same note, where there is one.
-pub(crate) fn copy_note(note: &Option<Note>) -> Option<Note>
+/// The same note, where there is one.
+pub fn copy_note(note: &Option<Note>) -> Option<Note>
     ensures { result ≡ note.now }
 {
     match note {
@@ -66,7 +101,7 @@ fn copy_minutes(minutes: &Option<Minutes>) -> Option<Minutes>
 }
 
 /// A payment that a PSP asks for (`ReqPay`).
-#[derive(Clone, Drop, PartialEq, Eq)]
+#[derive(Drop, PartialEq, Eq)]
 pub struct PayReq {
     /// `Head`. RESPPAY, the outcome to the asking PSP, carries its `msgId`.
     pub head: Head,
@@ -88,6 +123,19 @@ pub struct PayReq {
     pub payer_ac: Option<AccountRef>,
     /// `Payees.Payee[0].Ac`: where it is given, it has to be the setup's for the payee.
     pub payee_ac: Option<AccountRef>,
+    /// `Txn.initiationMode` and `Txn.purpose`: given exactly where the version is 2.0.
+    pub extra: Option<Extra>,
+    pub ghost by_version: { is_some extra ≡ is_two head.ver },
+}
+
+impl Clone for PayReq {
+    ghost is_clone = { λ a b. b ≡ a };
+
+    ghost is_infallible = { λ _. ⊤ };
+
+    fn clone(&self) -> Result<PayReq, AllocError> {
+        Ok(self.copy())
+    }
 }
 
 impl PayReq {
@@ -106,6 +154,7 @@ impl PayReq {
             amount: self.amount,
             payer_ac: copy_account(&self.payer_ac),
             payee_ac: copy_account(&self.payee_ac),
+            extra: copy_extra(&self.extra),
         }
     }
 }

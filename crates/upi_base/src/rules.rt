@@ -1,9 +1,9 @@
 //! The grammars.
 ghost use Rattle.std.specs.Prelude.{◌≡◌};
 ghost use Rattle.std.specs.Str.{is_utf8};
-ghost use Rattle.upi_base.specs.Texts.{is_run, is_name, is_psp, is_bank, is_account, is_address, is_note, is_path};
+ghost use Rattle.upi_base.specs.Texts.{is_run, is_name, is_psp, is_bank, is_account, is_address, is_note, is_path, is_two_digits};
 
-use crate::classes::{Alnum, Class, Name, Path, Plain, Psp, Upper, is_all, run};
+use crate::classes::{Alnum, Class, Digit, Name, Path, Plain, Psp, Upper, is_all, run};
 use crate::text::Rule;
 use std::str;
 
@@ -141,5 +141,17 @@ impl Rule for PathRule {
 
     fn allows(text: &[u8]) -> bool {
         is_run::<Path>(text) || (text.len() == 1 && text[0] == b'-')
+    }
+}
+
+/// The grammar of `TwoDigits`: two digits.
+#[derive(Clone, Copy)]
+pub struct DigitsRule;
+
+impl Rule for DigitsRule {
+    ghost allows = { is_two_digits };
+
+    fn allows(text: &[u8]) -> bool {
+        text.len() == 2 && is_all::<Digit>(text)
     }
 }

@@ -2,9 +2,9 @@
 ghost use Rattle.std.specs.Prelude.{◌≡◌, IfOk};
 
 use crate::boxed::Boxed;
-use crate::code::{Answer, Kind, Leg, Outcome};
+use crate::code::{Answer, Kind, Leg, Outcome, Ver};
 use crate::fault::NoMemory;
-use crate::message::copy_note;
+use crate::message::{Extra, copy_extra, copy_note};
 use crate::paise::Paise;
 use crate::setup::AccountRef;
 use crate::{Addr, BankCode, MsgId, Note, PspName, TxnId};
@@ -50,6 +50,8 @@ pub struct AuthQuestion {
     pub amount: Paise,
     /// The payment's `Txn.note`.
     pub note: Option<Note>,
+    /// The payment's `Txn.initiationMode` and `Txn.purpose`: given exactly with version 2.0.
+    pub extra: Option<Extra>,
 }
 
 impl AuthQuestion {
@@ -64,6 +66,7 @@ impl AuthQuestion {
             payee: self.payee.copy(),
             amount: self.amount,
             note: copy_note(&self.note),
+            extra: copy_extra(&self.extra),
         }
     }
 }
@@ -94,6 +97,8 @@ pub enum Body {
         ac: AccountRef,
         /// The address of that account: the payee's for a credit, else the payer's.
         addr: Addr,
+        /// The payment's `Txn.initiationMode` and `Txn.purpose`: given exactly with version 2.0.
+        extra: Option<Extra>,
     },
     /// ANSWER: a bank's, to an order.
     LegAnswer {
@@ -149,12 +154,14 @@ impl Body {
                 amount,
                 ac,
                 addr,
+                extra,
             } => Ok(Body::Order {
                 txn: txn.copy(),
                 leg: *leg,
                 amount: *amount,
                 ac: ac.copy(),
                 addr: addr.copy(),
+                extra: copy_extra(extra),
             }),
             Body::LegAnswer { txn, leg, answer } => Ok(Body::LegAnswer {
                 txn: txn.copy(),
@@ -191,6 +198,8 @@ pub struct Sent {
     pub to: Party,
     /// What it says.
     pub body: Body,
+    /// Its version: that of the payment or of the message that it answers.
+    pub ver: Ver,
 }
 
 impl Sent {
@@ -202,6 +211,7 @@ impl Sent {
             from: self.from.copy(),
             to: self.to.copy(),
             body: self.body.copy(alloc)?,
+            ver: self.ver,
         })
     }
 }

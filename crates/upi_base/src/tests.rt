@@ -41,6 +41,10 @@ fn addresses_notes_and_paths(rt: HostRuntime) {
     assert!(rt; PathText::read(b"-").is_some());
     assert!(rt; PathText::read(b"Payees.Payee[0].addr").is_some());
     assert!(rt; PathText::read(b"--").is_none());
+    assert!(rt; TwoDigits::read(b"05").is_some());
+    assert!(rt; TwoDigits::read(b"5").is_none());
+    assert!(rt; TwoDigits::read(b"005").is_none());
+    assert!(rt; TwoDigits::read(b"0a").is_none());
 }
 
 #[test]
@@ -60,7 +64,12 @@ fn copies_of_what_was_heard(rt: HostRuntime) -> Result<(), Fail> {
     let req_msg = msg_id.copy();
     let org = OrgId::read(b"alpha").ok_or("a member")?;
     let ts = Moment::of(0).ok_or("a moment")?;
-    let head = Head { msg_id, org, ts };
+    let head = Head {
+        msg_id,
+        org,
+        ts,
+        ver: Ver::One,
+    };
     let txn = TxnId::read(b"T1").ok_or("a name")?;
     let answer = ConfResp { head, req_msg, txn };
     let message = Message::Confirmed(Boxed::new(rt.alloc(), answer)?);

@@ -1,22 +1,26 @@
--- Bytes ahead of a reader, as they move into a line, and bytes that a sink took.
-use Rattle.std.proofs.Common.{◌≡◌, ℕ, suc, ◌+◌, ◌<◌, ◌≤◌, Bool, true, false, eqb, min, List, [], ◌∷◌, ◌++◌, length, take, drop, get_or, Option, Some, None, IfSome, Ok, Err, refl, sym, ap, ◌∙◌, inl, inr, arith, append_assoc, append-nil, eqb-true, one-add}
+-- Bytes ahead of a reader, as they move into a line.
+use Rattle.std.proofs.Common.{◌≡◌, ℕ, ◌+◌, ◌<◌, ◌≤◌, Bool, true, false, eqb, min, List, [], ◌∷◌, ◌++◌, length, take, drop, get_or, Option, Some, None, IfSome, Ok, Err, refl, sym, ap, subst, ◌∙◌, inl, inr, arith, append_assoc, append-nil, eqb-true, one-add}
+use Rattle.std.proofs.KnownBytes.{Consumes-kept}
 use Rattle.std.proofs.lemmas.Bool.{cases_Bool, eqb-false}
 use Rattle.std.proofs.lemmas.List.{length-append, take-append-drop, drop-drop}
 use Rattle.std.proofs.lemmas.List.Folds.{length-prefix_len}
 use Rattle.std.proofs.lemmas.List.Sums.{split_at_first, passes_at_first}
-use Rattle.std.specs.Io.KnownBytes.{prepend_known, append_known}
-use Rattle.upi_io.specs.Lines.{max_line, is_no_lf, line_len}
-use Rattle.upi_io.specs.Steps.{TakesPart, Advances}
+use Rattle.std.specs.Io.KnownBytes.{prepend_known, Consumes}
+use Rattle.upi_io.specs.Lines.{is_no_lf, line_len, IsCutOff}
+use Rattle.upi_io.specs.Steps.{IsReady, TakesPart, Advances}
+use Rattle.upi_io.specs.declared.lines.TheConstants.{MAX_LINE}
 use Rattle.upi_io.specs.declared.lines.LineFault.{LineFault}
 use Rattle.upi_io.specs.declared.lines.LineFault.TheVariants.{TooLong, TooMany, ReadFault, NoMemory}
 use Rattle.upi_io.proofs.Raw.{len_more}
 
-pub lf_split : (held : List ℕ) → line_len held < length held → held ≡ take (line_len held) held ++ 10 ∷ drop (line_len held + 1) held
+-- bytes with an LF are the front before it, the LF, and the others
+lf_split : (held : List ℕ) → line_len held < length held → held ≡ take (line_len held) held ++ 10 ∷ drop (line_len held + 1) held
 lf_split held h =
     let at : get_or held (line_len held) 0 ≡ 10 = eqb-true _ _ (passes_at_first (λ c. eqb c 10) held 0 h) in
     split_at_first (λ c. eqb c 10) held 0 h ∙ ap (λ x. take (line_len held) held ++ x ∷ drop (line_len held + 1) held) at
 
-pub len_front : (held : List ℕ) → line_len (take (line_len held) held) ≡ line_len held
+-- that front has no LF
+len_front : (held : List ℕ) → line_len (take (line_len held) held) ≡ line_len held
 len_front [] = refl
 len_front (c ∷ cs) =
     let ih = len_front cs in
@@ -25,7 +29,8 @@ len_front (c ∷ cs) =
       | inr off ↦ rw off refl
     ]
 
-pub len_le : (h x : List ℕ) → line_len h ≤ line_len (h ++ x)
+-- more bytes behind bring no LF nearer
+len_le : (h x : List ℕ) → line_len h ≤ line_len (h ++ x)
 len_le [] x = omega arith
 len_le (c ∷ cs) x =
     let ih = len_le cs x in
@@ -34,45 +39,20 @@ len_le (c ∷ cs) x =
       | inr off ↦ rw off (omega arith)
     ]
 
-pub prepend_twice : (xs ys : List ℕ) (o : Option (List ℕ)) → prepend_known xs (prepend_known ys o) ≡ prepend_known (xs ++ ys) o
-prepend_twice xs ys None = refl
-prepend_twice xs ys (Some z) = ap Some (sym (append_assoc xs ys z))
+-- the front of what is held moves to the end of a line
+moved : (b left : Option (List ℕ)) (line held part rest : List ℕ) → held ≡ part ++ rest → Consumes b (prepend_known held left) line → Consumes b (prepend_known rest left) (line ++ part)
+moved None left line held part rest e c = tt
+moved (Some x) None line held part rest e c = absurd c
+moved (Some x) (Some y) line held part rest e c = c ∙ ap (λ l. line ++ (l ++ y)) e ∙ simp append_assoc
 
-pub prepend_nil : (o : Option (List ℕ)) → prepend_known [] o ≡ o
-prepend_nil None = refl
-prepend_nil (Some z) = refl
-
-pub append_twice : (o : Option (List ℕ)) (xs ys : List ℕ) → append_known (append_known o xs) ys ≡ append_known o (xs ++ ys)
-append_twice None xs ys = refl
-append_twice (Some z) xs ys = ap Some (append_assoc z xs ys)
-
-pub append_nothing : (o : Option (List ℕ)) → append_known o [] ≡ o
-append_nothing None = refl
-append_nothing (Some z) = ap Some (append-nil z)
-
-pub take_lf : (line held : List ℕ) → line_len held < length held → line ++ held ≡ ((line ++ take (line_len held) held) ++ 10 ∷ []) ++ drop (line_len held + 1) held
-take_lf line held h = ap (λ l. line ++ l) (lf_split held h) ∙ simp append_assoc
-
-pub long : (b : Option (List ℕ)) (line held : List ℕ) (left : Option (List ℕ)) → b ≡ prepend_known line (prepend_known held left) → line_len line ≡ length line → max_line < length line + line_len held → IfSome b (λ bytes. max_line < line_len bytes)
-long b line held None p e h = rw p tt
-long b line held (Some y) p e h =
+-- a line that has grown too long shows that the bytes ahead begin with one
+long : (b : Option (List ℕ)) (line held : List ℕ) (left : Option (List ℕ)) → Consumes b (prepend_known held left) line → line_len line ≡ length line → MAX_LINE < length line + line_len held → IfSome b (λ bytes. MAX_LINE < line_len bytes)
+long None line held left p e h = tt
+long (Some x) line held None p e h = absurd p
+long (Some x) line held (Some y) p e h =
     let le = len_le held y in
     let more = len_more line (held ++ y) e in
     rw p (omega (arith, le, more))
-
-pub empty_is : (xs : List ℕ) → eqb (length xs) 0 ≡ true → xs ≡ []
-empty_is [] e = refl
-empty_is (x ∷ xs) e = absurd (suc_not (length xs) (eqb-true _ _ e))
-  where
-    suc_not : (n : ℕ) → suc n ≡ 0 → ⊥
-    suc_not n e = omega arith
-
--- what a fault of a part says of all the bytes ahead
-pub fault_is : (b after : Option (List ℕ)) (line held : List ℕ) (left : Option (List ℕ)) (at : ℕ) (held' line' : List ℕ) (f : LineFault) → b ≡ prepend_known line (prepend_known held left) → line_len line ≡ length line → TakesPart held line at held' line' (Err f) → Advances b after line' at (Err f)
-fault_is b after line held left at held' line' (TooLong a) p e t = (t.0, long b line held left p e t.1)
-fault_is b after line held left at held' line' TooMany p e t = t
-fault_is b after line held left at held' line' ReadFault p e t = tt
-fault_is b after line held left at held' line' NoMemory p e t = tt
 
 -- a line that has no LF, and then the front of what is held
 len_taken : (line held : List ℕ) → line_len line ≡ length line → line_len (line ++ take (line_len held) held) ≡ length (line ++ take (line_len held) held)
@@ -82,25 +62,48 @@ len_taken line held e =
     let more = len_more line (take (line_len held) held) e in
     omega (arith, front, len, more, length-append line (take (line_len held) held))
 
+-- and then all of it
 len_all : (line held : List ℕ) → line_len line ≡ length line → line_len held ≡ length held → line_len (line ++ held) ≡ length (line ++ held)
 len_all line held e f = omega (arith, len_more line held e, length-append line held)
 
+-- ---- what is ahead, once a byte is held, or none is left, or the source failed
+
+-- bytes moved from the source to those held
+pub ready_cut : (b : Option (List ℕ)) (line held held' : List ℕ) (left left' : Option (List ℕ)) → IsCutOff b (prepend_known held left) line → IsReady held held' left left' (Ok true) → IsCutOff b (prepend_known held' left') line
+ready_cut b line held held' left left' cut r = record { bytes = Consumes-kept b _ _ line cut.bytes r.0; line = cut.line }
+
+-- the source failed, and nothing is held
+pub ready_fault : (b : Option (List ℕ)) (line held held' : List ℕ) (left left' : Option (List ℕ)) (at : ℕ) (f : LineFault) → IsCutOff b (prepend_known held left) line → IsReady held held' left left' (Err f) → Advances b held' left' line at (Err f)
+ready_fault b line held held' left left' at f cut r = rw r.0 (record { bytes = Consumes-kept b _ _ line cut.bytes r.1; line = cut.line }, r.2)
+
+-- ---- what is ahead, once a part was taken
+
+-- what a fault of a part says of all the bytes ahead
+pub fault_is : (b : Option (List ℕ)) (line held : List ℕ) (left : Option (List ℕ)) (at : ℕ) (held' line' : List ℕ) (f : LineFault) → IsCutOff b (prepend_known held left) line → TakesPart held line at held' line' (Err f) → Advances b held' left line' at (Err f)
+fault_is b line held left at held' line' (TooLong a) cut t = (t.0, long b line held left cut.bytes cut.line.no_lf t.1, rw (t.2, t.3) cut)
+fault_is b line held left at held' line' TooMany cut t = t
+fault_is b line held left at held' line' ReadFault cut t = absurd t
+fault_is b line held left at held' line' NoMemory cut t = rw (t.0, t.1) cut
+
 -- a line has ended
-pub part_ends : (b : Option (List ℕ)) (line held : List ℕ) (left : Option (List ℕ)) (at : ℕ) (held' line' : List ℕ) → b ≡ prepend_known line (prepend_known held left) → line_len line ≡ length line → TakesPart held line at held' line' (Ok true) → Advances b (prepend_known held' left) line' at (Ok true)
-part_ends b line held left at held' line' p e t =
+pub part_ends : (b : Option (List ℕ)) (line held : List ℕ) (left : Option (List ℕ)) (at : ℕ) (held' line' : List ℕ) → IsCutOff b (prepend_known held left) line → TakesPart held line at held' line' (Ok true) → Advances b held' left line' at (Ok true)
+part_ends b line held left at held' line' cut t =
+    let front = take (line_len held) held in
+    let rest = drop (line_len held + 1) held in
+    let split : held ≡ (front ++ 10 ∷ []) ++ rest = lf_split held t.0 ∙ sym (append_assoc front (10 ∷ []) rest) in
+    let whole = moved b left line held (front ++ 10 ∷ []) rest split cut.bytes in
     rw (t.1, t.2) (
-      p ∙ prepend_twice line held left ∙ ap (λ l. prepend_known l left) (take_lf line held t.0) ∙ sym (prepend_twice ((line ++ take (line_len held) held) ++ 10 ∷ []) (drop (line_len held + 1) held) left),
-      len_taken line held e,
-      rw t.1 at t.3,
+      subst (λ (l : List ℕ). Consumes b (prepend_known rest left) l) (sym (append_assoc line front (10 ∷ []))) whole,
+      record { no_lf = len_taken line held cut.line.no_lf; short = rw t.1 at t.3 },
     )
 
 -- all that was held is in the line
-pub part_goes_on : (b : Option (List ℕ)) (line held : List ℕ) (left : Option (List ℕ)) (at : ℕ) (held' line' : List ℕ) → b ≡ prepend_known line (prepend_known held left) → line_len line ≡ length line → TakesPart held line at held' line' (Ok false) → (b ≡ prepend_known line' (prepend_known held' left)) × (line_len line' ≡ length line')
-part_goes_on b line held left at held' line' p e t =
-    rw (t.1, t.2) (
-      p ∙ prepend_twice line held left ∙ sym (ap (λ o. prepend_known (line ++ held) o) (prepend_nil left)),
-      len_all line held e t.0,
-    )
+pub part_goes_on : (b : Option (List ℕ)) (line held : List ℕ) (left : Option (List ℕ)) (at : ℕ) (held' line' : List ℕ) → IsCutOff b (prepend_known held left) line → TakesPart held line at held' line' (Ok false) → IsCutOff b (prepend_known held' left) line'
+part_goes_on b line held left at held' line' cut t =
+    rw (t.1, t.2) record {
+      bytes = moved b left line held held [] (sym (append-nil held)) cut.bytes;
+      line = record { no_lf = len_all line held cut.line.no_lf t.0; short = rw t.1 at t.3 };
+    }
 
 -- what a source over memory gave
 pub given : (bytes rest buf : List ℕ) (at n : ℕ) → rest ≡ drop at bytes → take n buf ≡ take n rest → drop at bytes ≡ take n buf ++ drop (at + n) bytes

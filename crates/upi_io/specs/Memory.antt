@@ -1,5 +1,5 @@
 -- Sources and sinks over memory: what a call of one answers, and what it makes of it.
-use Rattle.std.specs.Prelude.{ℕ, ◌-◌, ◌==◌, ◌||◌, Bool, true, nat_eq, nat_le, min, if◌then◌else◌, List, ◌++◌, length, take, drop}
+use Rattle.std.specs.Prelude.{ℕ, ◌-◌, ◌==◌, ◌||◌, Bool, true, false, nat_eq, nat_le, min, if◌then◌else◌, List, [], ◌∷◌, ◌++◌, length, take, drop}
 use Rattle.std.specs.List.{list_any}
 use Rattle.upi_io.specs.Faults.{next_count}
 use Rattle.upi_io.specs.declared.source.ReadAnswer.{ReadAnswer}
@@ -28,6 +28,19 @@ pub record SinkState : Type 0 where
 -- a call is one of those listed
 abbrev pub is_listed : List ℕ → ℕ → Bool
 is_listed fail_at call = list_any (λ listed. nat_eq listed call) fail_at
+
+-- where no call is listed, none fails, now or later
+abbrev pub is_none_listed : List ℕ → Bool
+is_none_listed [] = true
+is_none_listed (call ∷ calls) = false
+
+-- a source that can't fail from here on
+abbrev pub is_sure : SourceState → Bool
+is_sure s = is_none_listed s.fail_at
+
+-- how many bytes more a sink takes for sure
+abbrev pub sure_room : SinkState → ℕ
+sure_room k = if is_none_listed k.fail_at then k.room - length k.taken else 0
 
 -- Calls are counted from 1: this is the number of the next one.
 -- A read into so much room fails at a listed call; else it gives as much as is left, fits, and a piece may have.

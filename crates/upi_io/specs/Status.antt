@@ -26,7 +26,6 @@ why_name why.NoPsp = codes "NOPSP"
 why_name why.NoAccount = codes "NOACCOUNT"
 why_name why.Limit = codes "LIMIT"
 why_name why.End = codes "END"
-why_name why.Unbuilt = codes "UNBUILT"
 
 -- `upi: line L: word F: WHY`, then LF
 abbrev pub bad_line_text : ℕ → ℕ → Why → List ℕ

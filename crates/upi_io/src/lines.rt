@@ -1,10 +1,10 @@
 //! The lines of a source.
-ghost use Rattle.std.specs.Prelude.{◌≡◌, ◌↔◌, ◌<◌, ◌≤◌, ◌+◌, ◌++◌, List, ℕ, [], Some, None, Ok, Err, length, take, drop, true, false, MatchResult, IfSome};
+ghost use Rattle.std.specs.Prelude.{◌≡◌, ◌<◌, ◌≤◌, ◌+◌, List, ℕ, [], Some, None, Ok, Err, length, drop, true, false, IfSome, OnErr};
 ghost use Rattle.std.specs.List.{prefix_len};
-ghost use Rattle.std.specs.Io.KnownBytes.{prepend_known};
+ghost use Rattle.std.specs.Io.KnownBytes.{prepend_known, IsAtEnd};
 ghost use Rattle.upi_io.specs.Faults.{Rose};
-ghost use Rattle.upi_io.specs.Streams.{ReadCause, ended_after};
-ghost use Rattle.upi_io.specs.Lines.{line_len, max_line, max_lines, LineCause, IsNumbered, AnswersAhead, without_cr, ahead, count_after, fault_after};
+ghost use Rattle.upi_io.specs.Streams.{ReadCause, ReadSurely, ended_after};
+ghost use Rattle.upi_io.specs.Lines.{line_len, LineCause, LineSurely, IsLine, IsCutOff, IsNumbered, AnswersAhead, without_cr, ahead, count_after, fault_after};
 ghost use Rattle.upi_io.specs.Steps.{Fills, TakesPart, IsReady, Advances};
 
 use crate::source::{ReadAnswer, Source};
@@ -54,13 +54,14 @@ struct Held {
 }
 
 impl Model for Held {
-    ghost use Rattle.std.specs.Prelude.{◌≡◌, ◌-◌, ◌≤◌, List, ℕ, length, take, drop};
+    ghost use Rattle.std.specs.Prelude.{◌-◌, ◌≤◌, List, ℕ, take, drop};
+    ghost use Rattle.upi_io.specs.declared.lines.TheConstants.{ROOM};
 
     ghost Value = { List ℕ };
 
     ghost view = { λ h. take (h.end - h.start) (drop h.start h.buf) };
 
-    ghost invariant = { λ h. (h.start ≤ h.end) × (h.end ≤ 4096) };
+    ghost invariant = { λ h. (h.start ≤ h.end) × (h.end ≤ ROOM) };
 }
 
 impl Held {
@@ -95,6 +96,7 @@ impl Held {
         ensures bytes { Fills (S.left source.old) (S.left source.new) self.new result }
         ensures end { S.ended source.new ≡ ended_after (S.ended source.old) result }
         ensures cause { ReadCause (S.faults source.old) (S.faults source.new) result }
+        ensures sure { ReadSurely (S.sure source.old) (S.sure source.new) result }
     {
         self.start = 0;
         self.end = 0;
@@ -120,7 +122,7 @@ fn line_len(bytes: &[u8]) -> usize
 
 // Puts the held bytes up to the first LF at the end of a line. It answers whether there was an LF.
 fn take_part(held: &mut Held, line: &mut Vec<u8>, at: u64) -> Result<bool, LineFault>
-    requires { length line.old.items ≤ max_line }
+    requires { length line.old.items ≤ MAX_LINE }
     ensures { TakesPart held.old line.old.items at held.new line.new.items result }
 {
     let part = held.bytes();
@@ -145,6 +147,7 @@ fn ready<S: Source>(held: &mut Held, source: &mut S) -> Result<bool, LineFault>
     ensures bytes { IsReady held.old held.new (S.left source.old) (S.left source.new) result }
     ensures ended { result ≡ Ok false → S.ended source.new ≡ true }
     ensures cause { LineCause (S.faults source.old) (S.faults source.new) result }
+    ensures sure { LineSurely (S.sure source.old) (S.sure source.new) result }
 {
     if !held.bytes().is_empty() {
         return Ok(true);
@@ -164,8 +167,9 @@ fn advance<S: Source>(
     at: u64,
 ) -> Result<bool, LineFault>
     requires { line.old.items ≡ [] }
-    ensures bytes { Advances (prepend_known held.old (S.left source.old)) (prepend_known held.new (S.left source.new)) line.new.items at result }
+    ensures bytes { Advances (prepend_known held.old (S.left source.old)) held.new (S.left source.new) line.new.items at result }
     ensures cause { LineCause (S.faults source.old) (S.faults source.new) result }
+    ensures sure { LineSurely (S.sure source.old) (S.sure source.new) result }
 {
     loop {
         if !ready(held, source)? {
@@ -197,8 +201,13 @@ fn next_line<S: Source>(
     requires empty { line.old.items ≡ [] }
     ensures bytes { AnswersAhead lines (prepend_known held.old (S.left source.old)) (prepend_known held.new (S.left source.new)) line.new.items result }
     ensures cause { LineCause (S.faults source.old) (S.faults source.new) result }
+    ensures sure { LineSurely (S.sure source.old) (S.sure source.new) result }
     ensures number { IsNumbered lines result }
+    ensures line { IsLine line.new.items }
+    ensures cut { OnErr result (IsCutOff (prepend_known held.old (S.left source.old)) (prepend_known held.new (S.left source.new)) line.new.items) }
+    ensures read_fault { result ≡ Err LineFault.ReadFault → IsCutOff (prepend_known held.old (S.left source.old)) (S.left source.new) line.new.items }
     ensures ended { result ≡ Ok Line.End → S.ended source.new ≡ true }
+    ensures over { result ≡ Ok Line.End → IsAtEnd (S.left source.new) }
     ensures none_held { result ≡ Ok Line.End → held.new ≡ [] }
 {
     match ready(held, source) {
@@ -232,13 +241,14 @@ pub struct LineReader {
 
 impl Model for LineReader {
     ghost use Rattle.std.specs.Prelude.{◌≤◌};
-    ghost use Rattle.upi_io.specs.Lines.{ReaderState, max_lines};
+    ghost use Rattle.upi_io.specs.Lines.{ReaderState};
+    ghost use Rattle.upi_io.specs.declared.lines.TheConstants.{MAX_LINES};
 
     ghost Value = { ReaderState };
 
     ghost view = { λ r. record { held = r.held; lines = r.lines; fault = r.fault } };
 
-    ghost invariant = { λ r. r.lines ≤ max_lines };
+    ghost invariant = { λ r. r.lines ≤ MAX_LINES };
 }
 
 impl LineReader {
@@ -256,23 +266,35 @@ impl LineReader {
     /// Reads the next line into `line`, whose former bytes go.
     ///
     /// `TooLong` comes only where the line has more than 65,536 bytes before its LF, a CR counted, and
-    /// `TooMany` only where line 16,777,217 begins; there no line comes. `ReadFault` comes only where the source
-    /// failed. After a fault the same fault is answered for good, and nothing is read. Of a source
-    /// that doesn't tell what it has left, the bytes of a line aren't promised.
+    /// `TooMany` only where line 16,777,217 begins; there no line comes. `ReadFault` comes only where
+    /// the source failed. At a fault `line` has what was read of the line that isn't given, and no other
+    /// byte is gone. After a fault the same fault is answered for good, and nothing is read. Of a source
+    /// that doesn't tell what it has left, no more is promised of a line than that it has no LF and
+    /// isn't too long.
     pub fn next<S: Source>(&mut self, source: &mut S, line: &mut Vec<u8>) -> Result<Line, LineFault>
         // The answer is what the lines ahead call for, where the source tells what it has left.
         ensures answer { self.old.fault ≡ None
             → AnswersAhead self.old.lines (ahead self.old (S.left source.old)) (ahead self.new (S.left source.new)) line.new.items result }
+        // What is in the buffer has no LF and at most `MAX_LINE` bytes, whatever the source tells.
+        ensures line { result ≡ Ok Line.Got → IsLine line.new.items }
+        // A fault loses nothing: the buffer has what was read of a line that wasn't given, and all else is
+        // still ahead. At a read fault no byte is held: it is what the source has left.
+        ensures cut { self.old.fault ≡ None
+            → OnErr result (IsCutOff (ahead self.old (S.left source.old)) (ahead self.new (S.left source.new)) line.new.items) }
+        ensures read_fault { self.old.fault ≡ None → result ≡ Err LineFault.ReadFault
+            → IsCutOff (ahead self.old (S.left source.old)) (S.left source.new) line.new.items }
         // The lines given are counted, and a fault is kept.
         ensures count { self.old.fault ≡ None → self.new.lines ≡ count_after self.old.lines result }
         ensures fault { self.old.fault ≡ None → self.new.fault ≡ fault_after result }
-        ensures few { result ≡ Ok Line.Got → self.old.lines < max_lines }
+        ensures few { result ≡ Ok Line.Got → self.old.lines < MAX_LINES }
         ensures number { self.old.fault ≡ None → IsNumbered self.old.lines result }
-        // The end comes only where the source answered that it has ended, and no byte is held.
+        // The end comes only where the source answered that it has ended, and nothing is left or held.
         ensures ended { result ≡ Ok Line.End → S.ended source.new ≡ true }
+        ensures over { result ≡ Ok Line.End → IsAtEnd (S.left source.new) }
         ensures none_held { result ≡ Ok Line.End → self.new.held ≡ [] }
         // A read fault comes only where the source failed.
         ensures cause { self.old.fault ≡ None → LineCause (S.faults source.old) (S.faults source.new) result }
+        ensures sure { self.old.fault ≡ None → LineSurely (S.sure source.old) (S.sure source.new) result }
         // After a fault nothing is read.
         ensures same { IfSome self.old.fault (λ f. (result ≡ Err f) × (self.new ≡ self.old) × (source.new ≡ source.old) × (line.new.items ≡ line.old.items)) }
     {

@@ -1,8 +1,8 @@
 //! A source and a sink over memory.
 ghost use Rattle.std.specs.Prelude.{◌≡◌, ◌<◌, ◌≤◌, ◌↔◌, ℕ, Some, Ok, [], IfOk, IsOk, length, take, drop, min, vec_len, vec_capacity, true, false};
-ghost use Rattle.upi_io.specs.Memory.{SourceState, SinkState, is_listed, read_answer, after_read, write_answer, after_write};
+ghost use Rattle.upi_io.specs.Memory.{SourceState, SinkState, is_listed, is_sure, sure_room, read_answer, after_read, write_answer, after_write};
 ghost use Rattle.upi_io.specs.Faults.{next_count};
-ghost use Rattle.upi_io.specs.Streams.{Reads, ReadCause, ended_after, Writes, WriteCause};
+ghost use Rattle.upi_io.specs.Streams.{Reads, ReadCause, ReadSurely, ended_after, Writes, WriteCause, WriteSurely};
 
 use crate::sink::{Sink, WriteAnswer};
 use crate::source::{ReadAnswer, Source};
@@ -66,16 +66,17 @@ impl Source for MemSource {
 
     ghost faults = { λ s. s.faults };
 
+    ghost sure = { is_sure };
+
     fn read(&mut self, buf: &mut [u8]) -> ReadAnswer
         requires { 0 < length buf.old }
         ensures bytes { Reads (Some self.old.left) (Some self.new.left) buf.new result }
         ensures end { self.new.ended ≡ ended_after self.old.ended result }
         ensures cause { ReadCause self.old.faults self.new.faults result }
+        ensures sure { ReadSurely (is_sure self.old) (is_sure self.new) result }
         // It fails exactly at the calls listed, and gives no less than it may.
         ensures answer { result ≡ read_answer self.old (length buf.old) }
         ensures state { self.new ≡ after_read self.old result }
-        // Where no call is listed, none fails.
-        ensures never { self.old.fail_at ≡ [] → self.new.faults ≡ self.old.faults }
     {
         self.calls = self.calls.saturating_add(1);
         if self.fail_at.contains(&self.calls) {
@@ -172,15 +173,16 @@ impl Sink for MemSink {
 
     ghost faults = { λ k. k.faults };
 
+    ghost sure_room = { sure_room };
+
     fn write(&mut self, bytes: &[u8]) -> WriteAnswer
         requires { 0 < length bytes.now }
         ensures bytes { Writes (Some self.old.taken) (Some self.new.taken) bytes.now result }
         ensures cause { WriteCause self.old.faults self.new.faults result }
+        ensures sure { WriteSurely (sure_room self.old) (sure_room self.new) result }
         // It fails exactly at the calls listed and where its room is full, and takes no less than it may.
         ensures answer { result ≡ write_answer self.old bytes.now }
         ensures state { self.new ≡ after_write self.old bytes.now result }
-        // Where no call is listed and there is room, none fails.
-        ensures never { self.old.fail_at ≡ [] → length self.old.taken < self.old.room → self.new.faults ≡ self.old.faults }
     {
         self.calls = self.calls.saturating_add(1);
         let left = self.room - self.taken.len();

@@ -1,7 +1,7 @@
 //! Sources of bytes.
-ghost use Rattle.std.specs.Prelude.{◌≡◌, ◌<◌, ℕ, Bool, List, length};
+ghost use Rattle.std.specs.Prelude.{◌≡◌, ◌<◌, ℕ, Bool, false, List, length};
 ghost use Rattle.std.specs.declared.option.Option.{Option};
-ghost use Rattle.upi_io.specs.Streams.{Reads, ReadCause, ended_after};
+ghost use Rattle.upi_io.specs.Streams.{Reads, ReadCause, ReadSurely, ended_after};
 
 /// What a source answers to a read.
 #[derive(Clone, Copy, Debug, PartialEq, Eq)]
@@ -28,10 +28,14 @@ pub trait Source {
     /// How many calls have failed.
     ghost faults: { Self → ℕ };
 
+    /// Whether no call of it can fail from here on. A source over memory that lists no call is so.
+    ghost sure: { Self → Bool } = { λ _. false };
+
     /// Reads the next bytes into the front of a buffer, which isn't empty.
     fn read(&mut self, buf: &mut [u8]) -> ReadAnswer
         requires { 0 < length buf.old }
         ensures bytes { Reads (left self.old) (left self.new) buf.new result }
         ensures end { ended self.new ≡ ended_after (ended self.old) result }
-        ensures cause { ReadCause (faults self.old) (faults self.new) result };
+        ensures cause { ReadCause (faults self.old) (faults self.new) result }
+        ensures sure { ReadSurely (sure self.old) (sure self.new) result };
 }

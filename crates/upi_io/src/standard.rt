@@ -1,12 +1,16 @@
-//! Readers and writers of std as a source and a sink: standard input and output, of a program.
-//! What they have left or taken isn't told.
-ghost use Rattle.std.specs.Prelude.{◌≡◌, ◌≤◌, IfSome, None, length, false};
-ghost use Rattle.upi_io.specs.Standard.{reading_ended, reading_faults, writing_faults};
+//! Readers and writers of std as a source and a sink, such as standard input and output of a program.
+//!
+//! What they have left or taken is what the library's contracts tell of the reader or the writer: all of
+//! it for one over memory, and nothing for standard input and output.
+ghost use Rattle.std.specs.Prelude.{◌≡◌, ◌≤◌, [], length, true, false};
+ghost use Rattle.std.specs.Io.Buffered.{writer_buffer, writer_contents};
+ghost use Rattle.std.specs.Io.KnownBytes.{Keeps};
+ghost use Rattle.upi_io.specs.Standard.{reading_left, reading_ended, reading_faults, writing_inner, writing_taken, writing_faults, Gives, Takes};
 ghost use Rattle.upi_io.specs.Faults.{Rose};
 
 use crate::sink::{Sink, WriteAnswer};
 use crate::source::{ReadAnswer, Source};
-use std::io::{ErrorKind, Read, Write};
+use std::io::{BufWriter, ErrorKind, Read, Write};
 
 // How often a call is made again that a signal broke off.
 const MAX_TRIES: usize = 1000;
@@ -24,6 +28,7 @@ pub struct Reading<R> {
 impl<R: Read> Reading<R> {
     /// A source over a reader, which has had no fault.
     pub fn new(inner: R) -> Reading<R>
+        ensures left { reading_left R.remaining result ≡ R.remaining inner }
         ensures ended { reading_ended result ≡ false }
         ensures faults { reading_faults result ≡ 0 }
     {
@@ -36,7 +41,7 @@ impl<R: Read> Reading<R> {
 }
 
 impl<R: Read> Source for Reading<R> {
-    ghost left = { λ s. None };
+    ghost left = { reading_left R.remaining };
 
     ghost ended = { λ s. s.ended };
 
@@ -59,9 +64,9 @@ impl<R: Read> Source for Reading<R> {
 
 // Reads once. It answers how many bytes came, and None where the reader failed.
 fn read_once<R: Read>(inner: &mut R, buf: &mut [u8]) -> Option<usize>
-    ensures { IfSome result (λ n. n ≤ length buf.new) }
+    ensures { Gives (R.remaining inner.old) (R.remaining inner.new) buf.new result }
 {
-    for _ in 0..MAX_TRIES {
+    'tries: for _ in 0..MAX_TRIES {
         match inner.read(buf) {
             Ok(count) => return Some(count),
             Err(error) if error.kind() == ErrorKind::Interrupted => {}
@@ -86,14 +91,19 @@ pub struct Writing<W> {
 impl<W: Write> Writing<W> {
     /// A sink over a writer, which has had no fault.
     pub fn new(inner: W) -> Writing<W>
-        ensures { writing_faults result ≡ 0 }
+        ensures inner { writing_inner result ≡ inner }
+        ensures faults { writing_faults result ≡ 0 }
     {
         Writing { inner, faults: 0 }
     }
+}
 
+impl<W: Write + Drop> Writing<BufWriter<W>> {
     /// Lets the writer hand on what it has kept back, and answers whether it did. Where it failed,
-    /// that is one more fault.
+    /// that is one more fault, and what wasn't handed on is still kept back.
     pub fn finish(&mut self) -> bool
+        ensures emptied { result ≡ true → writer_buffer (writing_inner self.new) ≡ [] }
+        ensures bytes { Keeps (writing_taken (writer_contents W.contents) self.old) (writing_taken (writer_contents W.contents) self.new) }
         ensures count { writing_faults self.old ≤ writing_faults self.new }
         ensures cause { result ≡ false → Rose (writing_faults self.old) (writing_faults self.new) }
     {
@@ -106,7 +116,7 @@ impl<W: Write> Writing<W> {
 }
 
 impl<W: Write> Sink for Writing<W> {
-    ghost taken = { λ s. None };
+    ghost taken = { writing_taken W.contents };
 
     ghost faults = { λ s. s.faults };
 
@@ -123,9 +133,9 @@ impl<W: Write> Sink for Writing<W> {
 
 // Writes once. It answers how many bytes were taken, and None where the writer failed.
 fn write_once<W: Write>(inner: &mut W, bytes: &[u8]) -> Option<usize>
-    ensures { IfSome result (λ n. n ≤ length bytes.now) }
+    ensures { Takes (W.contents inner.old) (W.contents inner.new) bytes.now result }
 {
-    for _ in 0..MAX_TRIES {
+    'tries: for _ in 0..MAX_TRIES {
         match inner.write(bytes) {
             Ok(count) => return Some(count),
             Err(error) if error.kind() == ErrorKind::Interrupted => {}
@@ -136,8 +146,11 @@ fn write_once<W: Write>(inner: &mut W, bytes: &[u8]) -> Option<usize>
 }
 
 // Flushes a writer, and answers whether that was done.
-fn flush<W: Write>(inner: &mut W) -> bool {
-    for _ in 0..MAX_TRIES {
+fn flush<W: Write + Drop>(inner: &mut BufWriter<W>) -> bool
+    ensures emptied { result ≡ true → writer_buffer inner.new ≡ [] }
+    ensures bytes { Keeps (writer_contents W.contents inner.old) (writer_contents W.contents inner.new) }
+{
+    'tries: for _ in 0..MAX_TRIES {
         match inner.flush() {
             Ok(()) => return true,
             Err(error) if error.kind() == ErrorKind::Interrupted => {}

@@ -88,7 +88,6 @@ fn why_name(why: Why) -> &'static [u8]
         Why::NoAccount => b"NOACCOUNT",
         Why::Limit => b"LIMIT",
         Why::End => b"END",
-        Why::Unbuilt => b"UNBUILT",
     }
 }
 

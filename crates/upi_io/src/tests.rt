@@ -1,9 +1,11 @@
-ghost use Rattle.std.specs.Prelude.{◌<◌};
+ghost use Rattle.std.specs.Prelude.{◌≡◌, ◌≢◌, ◌<◌, Some, Ok, Err, IfOk, IsOk};
+ghost use Rattle.upi_io.specs.Lines.{raw_lines, first_of};
 
 use super::*;
 use std::alloc::Global;
+use std::io::BufWriter;
 use std::test::Fail;
-use upi_base::Why;
+use upi_base::{NoMemory, Why};
 
 // A source over these bytes. The calls listed fail.
 fn source(alloc: Global, bytes: &[u8], piece: usize, fail_at: &[u64]) -> Result<MemSource, Fail>
@@ -87,6 +89,55 @@ fn a_fault_stays(rt: HostRuntime) -> Result<(), Fail> {
 }
 
 #[test]
+fn a_read_fault_loses_nothing(rt: HostRuntime) -> Result<(), Fail> {
+    let alloc = rt.alloc();
+    let mut source = source(alloc, b"one\ntwo\nthree\n", 6, &[2])?;
+    let mut line = Vec::new(alloc);
+    let mut reader = LineReader::new();
+    assert_eq!(rt; reader.next(&mut source, &mut line), Ok(Line::Got));
+    assert_eq!(rt;
+        reader.next(&mut source, &mut line),
+        Err(LineFault::ReadFault)
+    );
+    assert_eq!(rt; line.as_slice(), b"tw".as_slice());
+    let mut reader = LineReader::new();
+    for want in [b"o".as_slice(), b"three".as_slice()] {
+        assert_eq!(rt; reader.next(&mut source, &mut line), Ok(Line::Got));
+        assert_eq!(rt; line.as_slice(), want);
+    }
+    assert_eq!(rt; reader.next(&mut source, &mut line), Ok(Line::End));
+    Ok(())
+}
+
+// The first line of a source over memory that lists no call. It is read a byte at a time.
+fn line_of_memory(alloc: Global, bytes: Vec<u8>, line: &mut Vec<u8>) -> Result<Line, LineFault>
+    ensures { result ≢ Err LineFault.ReadFault }
+{
+    let mut source = MemSource::new(bytes, 1, Vec::new(alloc));
+    let mut reader = LineReader::new();
+    reader.next(&mut source, line)
+}
+
+// Writes bytes into memory that has room for them, a byte at a time.
+fn write_to_memory(alloc: Global, bytes: &[u8]) -> Result<Result<(), Wrote>, NoMemory>
+    ensures { IfOk result (λ wrote. IsOk wrote) }
+{
+    let mut sink = MemSink::new(alloc, bytes.len(), 1, Vec::new(alloc))?;
+    let wrote = write_all(&mut sink, bytes);
+    Ok(wrote)
+}
+
+#[test]
+fn memory_that_never_fails(rt: HostRuntime) -> Result<(), Fail> {
+    let alloc = rt.alloc();
+    let mut line = Vec::new(alloc);
+    let bytes = Vec::from_slice(alloc, b"abc")?;
+    assert_eq!(rt; line_of_memory(alloc, bytes, &mut line), Ok(Line::Got));
+    assert_eq!(rt; write_to_memory(alloc, b"abc")?, Ok(()));
+    Ok(())
+}
+
+#[test]
 fn a_sink_fails_when_it_is_full(rt: HostRuntime) -> Result<(), Fail> {
     let alloc = rt.alloc();
     let mut sink = MemSink::new(alloc, 7, 3, Vec::new(alloc))?;
@@ -108,6 +159,15 @@ fn a_sink_fails_at_a_listed_call(rt: HostRuntime) -> Result<(), Fail> {
     Ok(())
 }
 
+// The first line of bytes, read from a slice, of which the library tells its bytes.
+fn first_line(bytes: &[u8], line: &mut Vec<u8>) -> Result<Line, LineFault>
+    ensures { result ≡ Ok Line.Got → first_of 0 (raw_lines bytes.now) ≡ Ok (Some line.new.items) }
+{
+    let mut source = Reading::new(bytes);
+    let mut reader = LineReader::new();
+    reader.next(&mut source, line)
+}
+
 #[test]
 fn a_reader_of_std(rt: HostRuntime) -> Result<(), Fail> {
     let mut source = Reading::new(b"ab\ncd".as_slice());
@@ -122,12 +182,31 @@ fn a_reader_of_std(rt: HostRuntime) -> Result<(), Fail> {
 }
 
 #[test]
+fn a_line_of_a_slice(rt: HostRuntime) -> Result<(), Fail> {
+    let mut line = Vec::new(rt.alloc());
+    assert_eq!(rt; first_line(b"ab\ncd", &mut line), Ok(Line::Got));
+    assert_eq!(rt; line.as_slice(), b"ab".as_slice());
+    Ok(())
+}
+
+#[test]
 fn a_writer_of_std(rt: HostRuntime) -> Result<(), Fail> {
     let mut room = [0; 5];
     let mut sink = Writing::new(room.as_mut_slice());
     assert_eq!(rt; write_all(&mut sink, b"abc"), Ok(()));
     assert_eq!(rt; write_all(&mut sink, b"def"), Err(Wrote { n: 2 }));
+    Ok(())
+}
+
+#[test]
+fn a_writer_that_keeps_bytes_back(rt: HostRuntime) -> Result<(), Fail> {
+    let alloc = rt.alloc();
+    let mut written = Vec::new(alloc);
+    let mut sink = Writing::new(BufWriter::new(alloc, &mut written)?);
+    assert_eq!(rt; write_all(&mut sink, b"abc"), Ok(()));
     assert!(rt; sink.finish());
+    drop(sink);
+    assert_eq!(rt; written.as_slice(), b"abc".as_slice());
     Ok(())
 }
 
@@ -175,7 +254,6 @@ fn reasons(rt: HostRuntime) -> Result<(), Fail> {
         (Why::NoAccount, "NOACCOUNT"),
         (Why::Limit, "LIMIT"),
         (Why::End, "END"),
-        (Why::Unbuilt, "UNBUILT"),
     ];
     for (why, name) in rows {
         let status = Status::BadLine {

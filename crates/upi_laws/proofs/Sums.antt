@@ -5,25 +5,17 @@ use Rattle.std.specs.Option.{option_or, option_and_then}
 use Rattle.std.specs.List.{AllByRecursion, sum_by, count_by}
 use Rattle.std.proofs.lemmas.List.Sums.{sum_by-cons, sum_by-append}
 use Rattle.std.proofs.lemmas.Slice.Eq.{bytes_eq-Decides}
-use Rattle.upi_base.specs.declared.entry.Entry.{Entry}
-use Rattle.upi_base.specs.declared.message.PayReq.{PayReq}
-use Rattle.upi_base.specs.declared.code.Leg.{Leg}
-use Rattle.upi_base.specs.declared.code.Leg.TheVariants as leg
-use Rattle.upi_base.specs.declared.code.Answer.{Answer}
-use Rattle.upi_base.specs.declared.setup.Account.{Account}
-use Rattle.upi_base.specs.declared.setup.SetupLine.{SetupLine}
+use Rattle.upi_words.specs.Prelude.{PayReq, Leg, Answer, Account, Opening, Setup, History, Text, is_closed, event_of, opened, opening, is_posted}
 use Rattle.upi_base.specs.Lists.{when, pick, joined}
 use Rattle.upi_base.specs.Setup.{same_account, account_at, is_setup}
-use Rattle.upi_laws.specs.declared.places.Opening.{Opening}
-use Rattle.upi_laws.specs.History.{is_closed, event_of}
-use Rattle.upi_laws.specs.Places.{has_id, if_of, opens, opened, opening}
-use Rattle.upi_laws.specs.Postings.{Answers, is_posted, is_account, posted_at, share, total}
-use Rattle.upi_laws.specs.Settlement.{accounts}
-use Rattle.upi_laws.specs.Laws.{IsAllowed}
+use Rattle.upi_model.specs.Places.{has_id, if_of, opens}
+use Rattle.upi_model.specs.Postings.{Answers, has_account, posted_at, share, total}
+use Rattle.upi_model.specs.Settlement.{accounts}
+use Rattle.upi_model.specs.Structure.{IsAllowed}
 use Rattle.upi_base.proofs.Options.{or_none, is_some_has}
 use Rattle.upi_base.proofs.Lists.{sum_add, sum_same, sum_none, sum_all}
-use Rattle.upi_laws.proofs.Stays.{opening_more}
-use Rattle.upi_laws.proofs.Openings.{opens_found}
+use Rattle.upi_model.proofs.Stays.{opening_more}
+use Rattle.upi_model.proofs.Openings.{opens_found}
 use Rattle.upi_laws.proofs.Setups.{AddressAccount, address_account}
 
 -- ---- sums
@@ -49,7 +41,7 @@ abbrev pub of_opening : (Opening → ℕ) → Option Opening → ℕ
 of_opening f None = 0
 of_opening f (Some o) = f o
 
-none_has : (t : List ℕ) (f : Opening → ℕ) (xs : List Opening) → pick (if_of t) xs ≡ None → sum_by (λ (o : Opening). cond (has_id t o) (f o) 0) xs ≡ 0
+none_has : (t : Text) (f : Opening → ℕ) (xs : List Opening) → pick (if_of t) xs ≡ None → sum_by (λ (o : Opening). cond (has_id t o) (f o) 0) xs ≡ 0
 none_has t f [] e = refl
 none_has t f (x ∷ xs) e = go (has_id t x) refl (none_has t f xs) e
   where
@@ -60,7 +52,7 @@ none_has t f (x ∷ xs) e = go (has_id t x) refl (none_has t f xs) e
         let n : cond (has_id t x) (f x) 0 ≡ 0 = ap (λ (b : Bool). cond b (f x) 0) is in
         omega (arith, ih k, n, sum_by-cons (λ (o : Opening). cond (has_id t o) (f o) 0) x xs)
 
-pub sum_at : (S : List SetupLine) (t : List ℕ) (f : Opening → ℕ) (h : List Entry) → sum_by (λ (o : Opening). cond (has_id t o) (f o) 0) (opened S h) ≡ of_opening f (opening S t h)
+pub sum_at : (S : Setup) (t : Text) (f : Opening → ℕ) (h : History) → sum_by (λ (o : Opening). cond (has_id t o) (f o) 0) (opened S h) ≡ of_opening f (opening S t h)
 sum_at S t f [] = refl
 sum_at S t f (e ∷ h) = go (opens S (opened S h) (is_closed h) (event_of h e.call) e.at) refl (sum_at S t f h)
   where
@@ -73,7 +65,7 @@ sum_at S t f (e ∷ h) = go (opens S (opened S h) (is_closed h) (event_of h e.ca
     added : (q : Opening) → opens S (opened S h) (is_closed h) (event_of h e.call) e.at ≡ Some q → sum_by (λ (o : Opening). cond (has_id t o) (f o) 0) (opened S h) ≡ of_opening f (opening S t h) → (b : Bool) → has_id t q ≡ b
         → sum_by (λ (o : Opening). cond (has_id t o) (f o) 0) (opened S h ++ q ∷ []) ≡ of_opening f (option_or (opening S t h) (if_of t q))
     added q is ih true has =
-        let none : opening S t h ≡ None = ap (λ (u : List ℕ). opening S u h) (sym ((bytes_eq-Decides q.terms.txn t).0 has)) ∙ (opens_found S e h q is).0 in
+        let none : opening S t h ≡ None = ap (λ (u : Text). opening S u h) (sym ((bytes_eq-Decides q.terms.txn t).0 has)) ∙ (opens_found S e h q is).0 in
         let z = none_has t f (opened S h) none in
         let n : cond (has_id t q) (f q) 0 ≡ f q = ap (λ (b : Bool). cond b (f q) 0) has in
         let r : of_opening f (option_or (opening S t h) (if_of t q)) ≡ f q = ap (of_opening f) (none_or (opening S t h) q none has) in
@@ -97,7 +89,7 @@ counts w None = false
 counts w (Some a) = w a
 
 -- what a leg of a payment moved, at the accounts that are counted
-abbrev pub moves_at : List SetupLine → (Account → Bool) → Answers → Leg → Opening → ℕ
+abbrev pub moves_at : Setup → (Account → Bool) → Answers → Leg → Opening → ℕ
 moves_at S w answers l o = cond (counts w (account_at S (posted_at l o.terms)) && is_posted (answers o.terms.txn l)) o.terms.amount 0
 
 share_at : (w : Account → Bool) (k x : Account) (p : Bool) (n : ℕ) → (same_account k.ac x.ac ≡ true → k ≡ x) → cond (w x) (cond (same_account k.ac x.ac && p) n 0) 0 ≡ cond (same_account k.ac x.ac && (w k && p)) n 0
@@ -117,19 +109,19 @@ share_at w k x p n alone = go (same_account k.ac x.ac) refl
     go true is = some (w x) (w k) (ap w (sym (alone is)))
     go false is = none (w x)
 
-shares : (S : List SetupLine) (w : Account → Bool) (l : Leg) (a : Option Answer) (r : PayReq) (k : Account) → account_at S (posted_at l r) ≡ Some k → AddressAccount S k
+shares : (S : Setup) (w : Account → Bool) (l : Leg) (a : Option Answer) (r : PayReq) (k : Account) → account_at S (posted_at l r) ≡ Some k → AddressAccount S k
     → sum_by (λ (x : Account). cond (w x) (share S x.ac l a r) 0) (accounts S) ≡ cond (counts w (account_at S (posted_at l r)) && is_posted a) r.amount 0
 shares S w l a r k at own =
-    let here : (x : Account) → cond (w x) (share S x.ac l a r) 0 ≡ cond (w x) (cond (same_account k.ac x.ac && is_posted a) r.amount 0) 0 = λ x. ap (λ (o : Option Account). cond (w x) (cond (is_account x.ac o && is_posted a) r.amount 0) 0) at in
+    let here : (x : Account) → cond (w x) (share S x.ac l a r) 0 ≡ cond (w x) (cond (same_account k.ac x.ac && is_posted a) r.amount 0) 0 = λ x. ap (λ (o : Option Account). cond (w x) (cond (has_account x.ac o && is_posted a) r.amount 0) 0) at in
     sum_same (λ (x : Account). cond (w x) (share S x.ac l a r) 0) (λ (x : Account). cond (w x) (cond (same_account k.ac x.ac && is_posted a) r.amount 0) 0) here (accounts S)
     ∙ (sum_all (λ (x : Account). cond (w x) (cond (same_account k.ac x.ac && is_posted a) r.amount 0) 0) (λ (x : Account). cond (same_account k.ac x.ac && (w k && is_posted a)) r.amount 0) (λ (x : Account). same_account k.ac x.ac ≡ true → k ≡ x) (λ x alone. share_at w k x (is_posted a) r.amount alone) (accounts S) own.alone
     ∙ (amount_each (λ (x : Account). same_account k.ac x.ac) (w k && is_posted a) r.amount (accounts S) own.once
     ∙ ap (λ (o : Option Account). cond (counts w o && is_posted a) r.amount 0) (sym at)))
 
-pub known_at : (S : List SetupLine) (l : Leg) (o : Opening) → IsAllowed S o → (a : Account) × (account_at S (posted_at l o.terms) ≡ Some a)
-known_at S leg.Debit o k = is_some_has (account_at S o.terms.payer) k.payer_known
-known_at S leg.Credit o k = is_some_has (account_at S o.terms.payee) k.payee_known
-known_at S leg.Reversal o k = is_some_has (account_at S o.terms.payer) k.payer_known
+pub known_at : (S : Setup) (l : Leg) (o : Opening) → IsAllowed S o → (a : Account) × (account_at S (posted_at l o.terms) ≡ Some a)
+known_at S Leg.Debit o k = is_some_has (account_at S o.terms.payer) k.payer_known
+known_at S Leg.Credit o k = is_some_has (account_at S o.terms.payee) k.payee_known
+known_at S Leg.Reversal o k = is_some_has (account_at S o.terms.payer) k.payer_known
 
 cond_add : (b : Bool) (m n : ℕ) → cond b (m + n) 0 ≡ cond b m 0 + cond b n 0
 cond_add true m n = refl
@@ -140,7 +132,7 @@ cond_zero true = refl
 cond_zero false = refl
 
 -- what the accounts moved is what the payments moved
-pub totals : (S : List SetupLine) (w : Account → Bool) (answers : Answers) (l : Leg) (os : List Opening) → is_setup S ≡ true → AllByRecursion (IsAllowed S) os
+pub totals : (S : Setup) (w : Account → Bool) (answers : Answers) (l : Leg) (os : List Opening) → is_setup S ≡ true → AllByRecursion (IsAllowed S) os
     → sum_by (λ (a : Account). cond (w a) (total S os answers a.ac l) 0) (accounts S) ≡ sum_by (moves_at S w answers l) os
 totals S w answers l [] setup known = sum_same (λ (a : Account). cond (w a) 0 0) (λ (a : Account). 0) (λ a. cond_zero (w a)) (accounts S) ∙ sum_none (accounts S)
 totals S w answers l (o ∷ os) setup known =

@@ -13,6 +13,7 @@ use Rattle.jiff_core.proofs.CalendarLemmas.{days_in_month_bounds}
 use Rattle.upi_base.specs.Texts.{is_name_byte, is_psp_byte, is_psp, is_name, is_address, fits}
 use Rattle.upi_base.specs.Money.{pair_text, paise_text}
 use Rattle.upi_base.specs.Time.{Civil, civil_from, date_text, clock_text, local_second, moment_text, max_moment}
+use Rattle.upi_msg.specs.Pieces.{is_bare}
 use Rattle.upi_base.proofs.Civils.{civil_nth, year_small}
 
 -- ASCII, no control, no quotation mark and no backslash
@@ -33,6 +34,16 @@ escape_clear [] e = refl
 escape_clear (c ∷ cs) e =
     let p = and_parts (is_clear c) (are_clear cs) e in
     ap₂ (λ (a b : List ℕ). a ++ b) (escape_one c p.0) (escape_clear cs p.1)
+
+bare_byte : (c : ℕ) → is_bare c ≡ true → escape_byte c ≡ c ∷ []
+unfolding is_bare
+bare_byte c e = escape_byte_plain c (grind (arith, nat_tests)) (grind (arith, nat_tests)) (grind (arith, nat_tests))
+
+pub escape_bare : (s : List ℕ) → list_all is_bare s ≡ true → escape s ≡ s
+escape_bare [] e = refl
+escape_bare (c ∷ cs) e =
+    let p = and_parts (is_bare c) (list_all is_bare cs) e in
+    ap₂ (λ (a b : List ℕ). a ++ b) (bare_byte c p.0) (escape_bare cs p.1)
 
 ascii_clear : (s : List ℕ) → are_clear s ≡ true → are_ascii s ≡ true
 ascii_clear [] e = refl

@@ -8,16 +8,16 @@ use Rattle.upi_base.specs.Money.{paise_text}
 use Rattle.upi_base.specs.Time.{moment_text}
 use Rattle.upi_base.specs.declared.setup.AccountRef.{AccountRef}
 use Rattle.upi_base.specs.declared.message.Head.{Head}
-use Rattle.upi_base.specs.declared.message.PayReq.{PayReq}
-use Rattle.upi_base.specs.declared.message.AuthResp.{AuthResp}
+use Rattle.upi_base.specs.declared.code.Ver.{Ver}
+use Rattle.upi_base.specs.declared.message.Extra.{Extra}
 use Rattle.upi_base.specs.declared.message.Chk.{Chk}
 use Rattle.upi_base.specs.declared.message.ConfResp.{ConfResp}
-use Rattle.upi_msg.specs.Tree.{maybe, only, head_tree, amount_tree, account_tree, rules_tree, kind_text, payer_tree, payee_tree, payment_tree, pay_tree, result_text, account_payees_tree, answer_payer_tree, resp_tree, id_tree, answer_tree, check_tree, confirmed_tree}
+use Rattle.upi_msg.specs.Tree.{maybe, only, head_tree, head_tree_of, amount_tree, account_tree, rules_tree, kind_text, ver_text, mode_tree, purpose_tree, payer_tree, payee_tree, payment_tree, txn_tree, parties_tree, pay_tree, result_text, account_payees_tree, answer_payer_tree, resp_tree, outcome_tree, id_tree, answer_body, answer_tree, check_tree, confirmed_tree}
 use Rattle.upi_msg.specs.Pieces.{front_text, later_text}
 use Rattle.upi_msg.proofs.Pieces.{glue, front, later}
 
-abbrev pub head_parts : Head → List (List ℕ)
-head_parts h = (codes "{\"msgId\":" ++ quoted h.msg_id) ∷ (codes ",\"orgId\":" ++ quoted h.org) ∷ (codes ",\"ts\":") ∷ (quoted (moment_text h.ts)) ∷ (codes ",\"ver\":\"1.0\"}") ∷ []
+abbrev pub head_parts : List ℕ → List ℕ → ℕ → Ver → List (List ℕ)
+head_parts msg org ts v = (codes "{\"msgId\":" ++ quoted msg) ∷ (codes ",\"orgId\":" ++ quoted org) ∷ (codes ",\"ts\":") ∷ (quoted (moment_text ts)) ∷ (codes ",\"ver\":" ++ quoted (ver_text v)) ∷ (codes "}") ∷ []
 
 abbrev pub amount_parts : ℕ → List (List ℕ)
 amount_parts v = (codes "{\"curr\":\"INR\",\"value\":") ∷ (quoted (paise_text v)) ∷ (codes "}") ∷ []
@@ -28,29 +28,32 @@ account_parts a = (codes "{\"Detail\":[{\"name\":\"IFSC\",\"value\":\"") ∷ (es
 abbrev pub rules_parts : ℕ → List (List ℕ)
 rules_parts n = (codes "\"Rules\":{\"Rule\":[{\"name\":\"EXPIREAFTER\",\"value\":" ++ quoted (decimal n)) ∷ (codes "}]},") ∷ []
 
-abbrev pub payer_parts : PayReq → List (List ℕ)
-payer_parts r = (codes "{") ∷ (front_text (codes "Ac") (option_map account_tree r.payer_ac)) ∷ (codes "\"Amount\":") ∷ (compact_text (amount_tree r.amount)) ∷ (codes ",\"addr\":" ++ quoted r.payer) ∷ (codes "}") ∷ []
+abbrev pub payer_parts : Option AccountRef → ℕ → List ℕ → List (List ℕ)
+payer_parts ac v addr = (codes "{") ∷ (front_text (codes "Ac") (option_map account_tree ac)) ∷ (codes "\"Amount\":") ∷ (compact_text (amount_tree v)) ∷ (codes ",\"addr\":" ++ quoted addr) ∷ (codes "}") ∷ []
 
-abbrev pub payee_parts : PayReq → List (List ℕ)
-payee_parts r = (codes "{") ∷ (front_text (codes "Ac") (option_map account_tree r.payee_ac)) ∷ (codes "\"addr\":" ++ quoted r.payee) ∷ (codes "}") ∷ []
+abbrev pub payee_parts : Option AccountRef → List ℕ → List (List ℕ)
+payee_parts ac addr = (codes "{") ∷ (front_text (codes "Ac") (option_map account_tree ac)) ∷ (codes "\"addr\":" ++ quoted addr) ∷ (codes "}") ∷ []
 
-abbrev pub payment_parts : PayReq → List (List ℕ)
-payment_parts r = (codes "{") ∷ (front_text (codes "Rules") (option_map rules_tree r.expire)) ∷ (codes "\"id\":" ++ quoted r.txn) ∷ (later_text (codes "note") (option_map string r.note)) ∷ (codes ",\"type\":" ++ quoted (kind_text r.kind)) ∷ (codes "}") ∷ []
+abbrev pub txn_parts : Option ℕ → List ℕ → Option Extra → Option (List ℕ) → List ℕ → List (List ℕ)
+txn_parts expire id extra note word = (codes "{") ∷ (front_text (codes "Rules") (option_map rules_tree expire)) ∷ (codes "\"id\":" ++ quoted id) ∷ (later_text (codes "initiationMode") (option_map mode_tree extra)) ∷ (later_text (codes "note") (option_map string note)) ∷ (later_text (codes "purpose") (option_map purpose_tree extra)) ∷ (codes ",\"type\":" ++ quoted word) ∷ (codes "}") ∷ []
 
-abbrev pub pay_parts : PayReq → List (List ℕ)
-pay_parts r = (codes "{\"ReqPay\":{\"Head\":") ∷ (compact_text (head_tree r.head)) ∷ (codes ",\"Payees\":{\"Payee\":[") ∷ (compact_text (payee_tree r)) ∷ (codes "]},\"Payer\":") ∷ (compact_text (payer_tree r)) ∷ (codes ",\"Txn\":") ∷ (compact_text (payment_tree r)) ∷ (codes "}}") ∷ []
+abbrev pub parties_parts : List ℕ → Data → Data → Data → Data → List (List ℕ)
+parties_parts name head payee payer txn = (123 ∷ (quoted name ++ codes ":{\"Head\":")) ∷ (compact_text head) ∷ (codes ",\"Payees\":{\"Payee\":[") ∷ (compact_text payee) ∷ (codes "]},\"Payer\":") ∷ (compact_text payer) ∷ (codes ",\"Txn\":") ∷ (compact_text txn) ∷ (codes "}}") ∷ []
 
 abbrev pub payees_parts : AccountRef → List (List ℕ)
 payees_parts a = (codes ",\"Payees\":{\"Payee\":[{\"Ac\":") ∷ (compact_text (account_tree a)) ∷ (codes "}]}") ∷ []
 
-abbrev pub answer_payer_parts : AuthResp → List (List ℕ)
-answer_payer_parts a = (codes "{") ∷ (front_text (codes "Ac") (option_map account_tree a.payer_ac)) ∷ (codes "\"Amount\":") ∷ (compact_text (amount_tree a.amount)) ∷ (codes "}") ∷ []
+abbrev pub answer_payer_parts : Option AccountRef → ℕ → List (List ℕ)
+answer_payer_parts ac v = (codes "{") ∷ (front_text (codes "Ac") (option_map account_tree ac)) ∷ (codes "\"Amount\":") ∷ (compact_text (amount_tree v)) ∷ (codes "}") ∷ []
 
-abbrev pub resp_parts : AuthResp → List (List ℕ)
-resp_parts a = (codes "{\"reqMsgId\":" ++ quoted a.req_msg) ∷ (codes ",\"result\":" ++ quoted (result_text a.yes)) ∷ (codes "}") ∷ []
+abbrev pub resp_parts : Option (List ℕ) → List ℕ → List ℕ → List (List ℕ)
+resp_parts code req result = (codes "{") ∷ (front_text (codes "errCode") (option_map string code)) ∷ (codes "\"reqMsgId\":" ++ quoted req) ∷ (codes ",\"result\":" ++ quoted result) ∷ (codes "}") ∷ []
 
-abbrev pub answer_parts : AuthResp → List (List ℕ)
-answer_parts a = (codes "{\"RespAuthDetails\":{\"Head\":") ∷ (compact_text (head_tree a.head)) ∷ (later_text (codes "Payees") (option_map account_payees_tree a.payee_ac)) ∷ (codes ",\"Payer\":") ∷ (compact_text (answer_payer_tree a)) ∷ (codes ",\"Resp\":") ∷ (compact_text (resp_tree a)) ∷ (codes ",\"Txn\":{\"id\":" ++ quoted a.txn) ∷ (codes "}}}") ∷ []
+abbrev pub outcome_parts : Option (List ℕ) → List ℕ → List (List ℕ)
+outcome_parts code result = (codes "{") ∷ (front_text (codes "errCode") (option_map string code)) ∷ (codes "\"result\":" ++ quoted result) ∷ (codes "}") ∷ []
+
+abbrev pub answer_parts : Data → Option Data → Data → Data → List ℕ → List (List ℕ)
+answer_parts head payees payer resp txn = (codes "{\"RespAuthDetails\":{\"Head\":") ∷ (compact_text head) ∷ (later_text (codes "Payees") payees) ∷ (codes ",\"Payer\":") ∷ (compact_text payer) ∷ (codes ",\"Resp\":") ∷ (compact_text resp) ∷ (codes ",\"Txn\":{\"id\":" ++ quoted txn) ∷ (codes "}}}") ∷ []
 
 abbrev pub check_parts : Chk → List (List ℕ)
 check_parts k = (codes "{\"ReqChkTxn\":{\"Head\":") ∷ (compact_text (head_tree k.head)) ∷ (codes ",\"Txn\":{\"id\":" ++ quoted k.txn) ∷ (codes "}}}") ∷ []
@@ -61,9 +64,9 @@ confirmed_parts k = (codes "{\"RespTxnConfirmation\":{\"Head\":") ∷ (compact_t
 abbrev pub foreign_parts : List ℕ → Head → List (List ℕ)
 foreign_parts name h = (codes "{" ++ quoted name) ∷ (codes ":{\"Head\":") ∷ (compact_text (head_tree h)) ∷ (codes "}}") ∷ []
 
-pub head_text : (h : Head) → glue (head_parts h) ≡ compact_text (head_tree h)
-unfolding escape_byte head_tree
-head_text h = refl
+pub head_text : (msg org : List ℕ) (ts : ℕ) (v : Ver) → glue (head_parts msg org ts v) ≡ compact_text (head_tree_of msg org ts v)
+unfolding escape_byte head_tree_of
+head_text msg org ts v = refl
 
 pub amount_text : (v : ℕ) → glue (amount_parts v) ≡ compact_text (amount_tree v)
 unfolding escape_byte amount_tree
@@ -91,31 +94,36 @@ pub rules_text : (n : ℕ) → glue (rules_parts n) ≡ codes "\"Rules\":" ++ (c
 unfolding escape_byte rules_tree
 rules_text n = ap (λ (l : List ℕ). codes "\"Rules\":{\"Rule\":[{\"name\":\"EXPIREAFTER\",\"value\":\"" ++ l) (rules_joins (escape (decimal n)))
 
-pub payer_text : (r : PayReq) → glue (payer_parts r) ≡ compact_text (payer_tree r)
+pub payer_text : (ac : Option AccountRef) (v : ℕ) (addr : List ℕ) → glue (payer_parts ac v addr) ≡ compact_text (payer_tree ac v addr)
 unfolding escape_byte payer_tree
-payer_text r = ap (λ (l : List ℕ). 123 ∷ l) (sym (front (codes "Ac") (option_map account_tree r.payer_ac) (codes "Amount") (amount_tree r.amount) (member (codes "addr") (string r.payer) no_members)))
+payer_text ac v addr = ap (λ (l : List ℕ). 123 ∷ l) (sym (front (codes "Ac") (option_map account_tree ac) (codes "Amount") (amount_tree v) (member (codes "addr") (string addr) no_members)))
 
-pub payee_text : (r : PayReq) → glue (payee_parts r) ≡ compact_text (payee_tree r)
+pub payee_text : (ac : Option AccountRef) (addr : List ℕ) → glue (payee_parts ac addr) ≡ compact_text (payee_tree ac addr)
 unfolding escape_byte payee_tree
-payee_text r = ap (λ (l : List ℕ). 123 ∷ l) (sym (front (codes "Ac") (option_map account_tree r.payee_ac) (codes "addr") (string r.payee) no_members))
+payee_text ac addr = ap (λ (l : List ℕ). 123 ∷ l) (sym (front (codes "Ac") (option_map account_tree ac) (codes "addr") (string addr) no_members))
 
-pub payment_text : (r : PayReq) → glue (payment_parts r) ≡ compact_text (payment_tree r)
-unfolding escape_byte payment_tree
-payment_text r =
-    let types : Members = member (codes "type") (string (kind_text r.kind)) no_members in
-    let rest : Members = maybe (codes "note") (option_map string r.note) types in
-    ap (λ (l : List ℕ). 123 ∷ (front_text (codes "Rules") (option_map rules_tree r.expire) ++ (codes "\"id\":" ++ (quoted r.txn ++ l)))) (sym (later (codes "note") (option_map string r.note) types))
-    ∙ ap (λ (l : List ℕ). 123 ∷ l) (sym (front (codes "Rules") (option_map rules_tree r.expire) (codes "id") (string r.txn) rest))
+pub txn_text : (expire : Option ℕ) (id : List ℕ) (extra : Option Extra) (note : Option (List ℕ)) (word : List ℕ) → glue (txn_parts expire id extra note word) ≡ compact_text (txn_tree expire id extra note word)
+unfolding escape_byte txn_tree
+txn_text expire id extra note word =
+    let types : Members = member (codes "type") (string word) no_members in
+    let purposes : Members = maybe (codes "purpose") (option_map purpose_tree extra) types in
+    let notes : Members = maybe (codes "note") (option_map string note) purposes in
+    let rest : Members = maybe (codes "initiationMode") (option_map mode_tree extra) notes in
+    let before : List ℕ = front_text (codes "Rules") (option_map rules_tree expire) in
+    ap (λ (l : List ℕ). 123 ∷ (before ++ (codes "\"id\":" ++ (quoted id ++ (later_text (codes "initiationMode") (option_map mode_tree extra) ++ (later_text (codes "note") (option_map string note) ++ l)))))) (sym (later (codes "purpose") (option_map purpose_tree extra) types))
+    ∙ ap (λ (l : List ℕ). 123 ∷ (before ++ (codes "\"id\":" ++ (quoted id ++ (later_text (codes "initiationMode") (option_map mode_tree extra) ++ l))))) (sym (later (codes "note") (option_map string note) purposes))
+    ∙ ap (λ (l : List ℕ). 123 ∷ (before ++ (codes "\"id\":" ++ (quoted id ++ l)))) (sym (later (codes "initiationMode") (option_map mode_tree extra) notes))
+    ∙ ap (λ (l : List ℕ). 123 ∷ l) (sym (front (codes "Rules") (option_map rules_tree expire) (codes "id") (string id) rest))
 
--- the text of a payment, joined otherwise
-pay_joins : (h e p m a b d : List ℕ) → h ++ (a ++ (e ++ ((93 ∷ 125 ∷ b) ++ (p ++ (d ++ (m ++ 125 ∷ 125 ∷ []))))))
-    ≡ (h ++ (a ++ (((e ++ 93 ∷ []) ++ 125 ∷ []) ++ (b ++ (p ++ (d ++ (m ++ 125 ∷ []))))))) ++ 125 ∷ []
-pay_joins h e p m a b d = simp append_assoc refl
+-- the text of a message with both parties, joined otherwise
+parties_joins : (n h e p m a b d k : List ℕ) → ((n ++ 34 ∷ []) ++ k) ++ (h ++ (a ++ (e ++ ((93 ∷ 125 ∷ b) ++ (p ++ (d ++ (m ++ 125 ∷ 125 ∷ [])))))))
+    ≡ (n ++ 34 ∷ []) ++ (k ++ ((h ++ (a ++ (((e ++ 93 ∷ []) ++ 125 ∷ []) ++ (b ++ (p ++ (d ++ (m ++ 125 ∷ []))))))) ++ 125 ∷ []))
+parties_joins n h e p m a b d k = simp append_assoc refl
 
-pub pay_text : (r : PayReq) → glue (pay_parts r) ≡ compact_text (only (codes "ReqPay") (pay_tree r))
-unfolding escape_byte pay_tree
-pay_text r =
-    ap (λ (l : List ℕ). codes "{\"ReqPay\":{\"Head\":" ++ l) (pay_joins (compact_text (head_tree r.head)) (compact_text (payee_tree r)) (compact_text (payer_tree r)) (compact_text (payment_tree r)) (codes ",\"Payees\":{\"Payee\":[") (codes ",\"Payer\":") (codes ",\"Txn\":"))
+pub parties_text : (name : List ℕ) (head payee payer txn : Data) → glue (parties_parts name head payee payer txn) ≡ compact_text (only name (parties_tree head payee payer txn))
+unfolding escape_byte parties_tree
+parties_text name head payee payer txn =
+    ap (λ (l : List ℕ). 123 ∷ 34 ∷ l) (parties_joins (escape name) (compact_text head) (compact_text payee) (compact_text payer) (compact_text txn) (codes ",\"Payees\":{\"Payee\":[") (codes ",\"Payer\":") (codes ",\"Txn\":") (codes ":{\"Head\":"))
 
 payees_joins : (a : List ℕ) → a ++ 125 ∷ 93 ∷ 125 ∷ [] ≡ ((a ++ 125 ∷ []) ++ 93 ∷ []) ++ 125 ∷ []
 payees_joins a = simp append_assoc refl
@@ -124,25 +132,28 @@ pub payees_text : (a : AccountRef) → glue (payees_parts a) ≡ 44 ∷ (quoted 
 unfolding escape_byte account_payees_tree
 payees_text a = ap (λ (l : List ℕ). codes ",\"Payees\":{\"Payee\":[{\"Ac\":" ++ l) (payees_joins (compact_text (account_tree a)))
 
-pub answer_payer_text : (a : AuthResp) → glue (answer_payer_parts a) ≡ compact_text (answer_payer_tree a)
+pub answer_payer_text : (ac : Option AccountRef) (v : ℕ) → glue (answer_payer_parts ac v) ≡ compact_text (answer_payer_tree ac v)
 unfolding escape_byte answer_payer_tree
-answer_payer_text a = ap (λ (l : List ℕ). 123 ∷ l) (sym (front (codes "Ac") (option_map account_tree a.payer_ac) (codes "Amount") (amount_tree a.amount) no_members))
+answer_payer_text ac v = ap (λ (l : List ℕ). 123 ∷ l) (sym (front (codes "Ac") (option_map account_tree ac) (codes "Amount") (amount_tree v) no_members))
 
-pub resp_text : (a : AuthResp) → glue (resp_parts a) ≡ compact_text (resp_tree a)
+pub resp_text : (code : Option (List ℕ)) (req result : List ℕ) → glue (resp_parts code req result) ≡ compact_text (resp_tree code req result)
 unfolding escape_byte resp_tree
-resp_text a = refl
+resp_text code req result = ap (λ (l : List ℕ). 123 ∷ l) (sym (front (codes "errCode") (option_map string code) (codes "reqMsgId") (string req) (member (codes "result") (string result) no_members)))
+
+pub outcome_text : (code : Option (List ℕ)) (result : List ℕ) → glue (outcome_parts code result) ≡ compact_text (outcome_tree code result)
+unfolding escape_byte outcome_tree
+outcome_text code result = ap (λ (l : List ℕ). 123 ∷ l) (sym (front (codes "errCode") (option_map string code) (codes "result") (string result) no_members))
 
 answer_joins : (h q p r t a b d : List ℕ) → h ++ (q ++ (a ++ (p ++ (b ++ (r ++ ((d ++ (t ++ 34 ∷ [])) ++ 125 ∷ 125 ∷ 125 ∷ []))))))
     ≡ (h ++ (q ++ (a ++ (p ++ (b ++ (r ++ (d ++ (((t ++ 34 ∷ []) ++ 125 ∷ []) ++ 125 ∷ [])))))))) ++ 125 ∷ []
 answer_joins h q p r t a b d = simp append_assoc refl
 
-pub answer_text : (a : AuthResp) → glue (answer_parts a) ≡ compact_text (only (codes "RespAuthDetails") (answer_tree a))
-unfolding escape_byte answer_tree
-answer_text a =
-    let h : List ℕ = compact_text (head_tree a.head) in
-    let payees : Option Data = option_map account_payees_tree a.payee_ac in
-    let rest : Members = member (codes "Payer") (answer_payer_tree a) (member (codes "Resp") (resp_tree a) (member (codes "Txn") (id_tree a.txn) no_members)) in
-    ap (λ (l : List ℕ). codes "{\"RespAuthDetails\":{\"Head\":" ++ l) (answer_joins h (later_text (codes "Payees") payees) (compact_text (answer_payer_tree a)) (compact_text (resp_tree a)) (escape a.txn) (codes ",\"Payer\":") (codes ",\"Resp\":") (codes ",\"Txn\":{\"id\":\""))
+pub answer_text : (head : Data) (payees : Option Data) (payer resp : Data) (txn : List ℕ) → glue (answer_parts head payees payer resp txn) ≡ compact_text (only (codes "RespAuthDetails") (answer_body head payees payer resp txn))
+unfolding escape_byte answer_body
+answer_text head payees payer resp txn =
+    let h : List ℕ = compact_text head in
+    let rest : Members = member (codes "Payer") payer (member (codes "Resp") resp (member (codes "Txn") (id_tree txn) no_members)) in
+    ap (λ (l : List ℕ). codes "{\"RespAuthDetails\":{\"Head\":" ++ l) (answer_joins h (later_text (codes "Payees") payees) (compact_text payer) (compact_text resp) (escape txn) (codes ",\"Payer\":") (codes ",\"Resp\":") (codes ",\"Txn\":{\"id\":\""))
     ∙ ap (λ (l : List ℕ). codes "{\"RespAuthDetails\":{\"Head\":" ++ ((h ++ l) ++ 125 ∷ [])) (sym (later (codes "Payees") payees rest))
 
 check_joins : (h t a : List ℕ) → h ++ ((a ++ (t ++ 34 ∷ [])) ++ 125 ∷ 125 ∷ 125 ∷ []) ≡ (h ++ (a ++ (((t ++ 34 ∷ []) ++ 125 ∷ []) ++ 125 ∷ []))) ++ 125 ∷ []

@@ -1,3 +1,13 @@
+pub mod Types
 pub mod Tree
 pub mod Pieces
-pub mod Plain
+pub mod Places
+pub mod Members
+pub mod Named
+pub mod Heads
+pub mod Parties
+pub mod Payments
+pub mod Answering
+pub mod Read
+pub mod Sending
+pub mod Typed

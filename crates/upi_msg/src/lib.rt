@@ -1,11 +1,24 @@
 //! Messages as JSON: their one written form, and reading it back.
 #![tactic(auto)]
 
+mod answer;
+mod guess;
+mod head;
+mod member;
+mod named;
+mod party;
+pub mod pay;
+pub mod place;
 mod quote;
-mod read;
+mod reader;
+mod reply;
+mod sent;
+mod words;
 mod write;
 
-pub use read::{plain_reads_back, read_plain};
+pub use reader::{read, reads_back};
+pub use reply::reply_text;
+pub use sent::sent_text;
 pub use write::text;
 
 #[cfg(test)]

@@ -1,6 +1,8 @@
 //! JSON strings.
 ghost use Rattle.std.specs.Prelude.{◌≡◌, ◌++◌, ◌<◌, OnOk};
 ghost use Rattle.std.specs.Char.{digit_char};
+ghost use Rattle.std.specs.List.{list_all};
+ghost use Rattle.upi_msg.specs.Pieces.{is_bare};
 ghost use Rattle.json.specs.Print.{escape_letter, escape_byte, escape, quoted};
 
 use upi_base::NoMemory;
@@ -57,14 +59,47 @@ fn push_byte(out: &mut Vec<u8>, c: u8) -> Result<(), NoMemory>
     Ok(())
 }
 
-/// Appends what stands in a string for these bytes.
-pub(crate) fn push_escaped(out: &mut Vec<u8>, text: &[u8]) -> Result<(), NoMemory>
+// Whether a byte stands in a string as it is.
+#[tactic(auto, unfolding(crate::specs::Pieces::is_bare))]
+fn is_bare(c: u8) -> bool
+    ensures { result ≡ is_bare c }
+{
+    32 <= c && c != b'"' && c != b'\\'
+}
+
+// Whether each byte does.
+fn are_bare(text: &[u8]) -> bool
+    ensures { result ≡ list_all is_bare text.now }
+{
+    'bytes: for c in text {
+        if !is_bare(*c) {
+            return false;
+        }
+    }
+    true
+}
+
+// Appends what stands in a string for these bytes, one by one.
+fn push_each(out: &mut Vec<u8>, text: &[u8]) -> Result<(), NoMemory>
     ensures { OnOk result (out.new.items ≡ out.old.items ++ escape text.now) }
 {
     for c in text {
         push_byte(out, *c)?;
     }
     Ok(())
+}
+
+/// Appends what stands in a string for these bytes.
+#[tactic(auto, using(crate::proofs::Clear::escape_bare))]
+pub(crate) fn push_escaped(out: &mut Vec<u8>, text: &[u8]) -> Result<(), NoMemory>
+    ensures { OnOk result (out.new.items ≡ out.old.items ++ escape text.now) }
+{
+    if are_bare(text) {
+        out.extend_from_slice(text)?;
+        Ok(())
+    } else {
+        push_each(out, text)
+    }
 }
 
 /// Appends the string of these bytes.

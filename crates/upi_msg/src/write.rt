@@ -3,21 +3,26 @@ ghost use Rattle.std.specs.Prelude.{◌≡◌, ◌++◌, OnOk, OnErr, codes, str
 ghost use Rattle.serde_json.specs.Data.{string};
 ghost use Rattle.serde_json.specs.Written.{compact_text};
 ghost use Rattle.json.specs.Print.{quoted};
-ghost use Rattle.upi_msg.specs.Tree.{only, kind_text, result_text, api_text, head_tree, amount_tree, account_tree, rules_tree, account_payees_tree, payer_tree, payee_tree, payment_tree, pay_tree, answer_payer_tree, resp_tree, answer_tree, check_tree, confirmed_tree, message_tree, message_text};
+ghost use Rattle.upi_msg.specs.Tree.{only, api_text, mode_tree, purpose_tree, head_tree, head_tree_of, amount_tree, account_tree, rules_tree, account_payees_tree, payer_tree, payee_tree, txn_tree, pay_tree, answer_payer_tree, resp_tree, outcome_tree, answer_tree, check_tree, confirmed_tree, message_tree, message_text};
+ghost use Rattle.upi_base.specs.Words.{code_text};
 ghost use Rattle.upi_base.specs.Money.{paise_text};
 ghost use Rattle.upi_base.specs.Time.{moment_text};
 ghost use Rattle.upi_msg.specs.Pieces.{front_text, later_text};
 
 use crate::quote::{push_escaped, push_quoted};
+use crate::words::{api_text, kind_text, result_text, ver_text};
 use itoa::Buffer;
 use std::alloc::Global;
 use upi_base::{
-    AccountRef, Api, AuthResp, Chk, ConfResp, Head, Kind, Message, Minutes, Moment, NoMemory, Note,
-    Paise, PayReq, Rule, Text,
+    AccountRef, Addr, Api, AuthResp, Chk, Code, ConfResp, Extra, Head, Message, Minutes, Moment,
+    NoMemory, Note, Paise, PayReq, Rule, Text, TxnId, Ver, code_word,
 };
 
+/// Room for the text of most messages, in bytes.
+pub(crate) const WRITTEN: usize = 512;
+
 // Appends these bytes, and the string of a small text.
-fn push_text<R: Rule, const N: usize>(
+pub(crate) fn push_text<R: Rule, const N: usize>(
     out: &mut Vec<u8>,
     before: &[u8],
     text: &Text<R, N>,
@@ -28,7 +33,7 @@ fn push_text<R: Rule, const N: usize>(
 }
 
 // Appends these bytes, and the string of those.
-fn push_member(out: &mut Vec<u8>, before: &[u8], text: &[u8]) -> Result<(), NoMemory>
+pub(crate) fn push_member(out: &mut Vec<u8>, before: &[u8], text: &[u8]) -> Result<(), NoMemory>
     ensures { OnOk result (out.new.items ≡ out.old.items ++ (before.now ++ quoted text.now)) }
 {
     out.extend_from_slice(before)?;
@@ -57,16 +62,37 @@ fn push_paise(out: &mut Vec<u8>, amount: Paise) -> Result<(), NoMemory>
     Ok(())
 }
 
+// Appends a `Head` of these texts, a moment and a version.
+pub(crate) fn push_head_of(
+    out: &mut Vec<u8>,
+    msg: &[u8],
+    org: &[u8],
+    ts: Moment,
+    ver: Ver,
+) -> Result<(), NoMemory>
+    ensures { OnOk result (out.new.items
+        ≡ out.old.items ++ compact_text (head_tree_of msg.now org.now ts ver)) }
+{
+    push_member(out, b"{\"msgId\":", msg)?;
+    push_member(out, b",\"orgId\":", org)?;
+    out.extend_from_slice(b",\"ts\":")?;
+    push_moment(out, ts)?;
+    push_member(out, b",\"ver\":", ver_text(ver))?;
+    out.push(b'}')?;
+    Ok(())
+}
+
 // Appends a `Head`.
 fn push_head(out: &mut Vec<u8>, head: &Head) -> Result<(), NoMemory>
     ensures { OnOk result (out.new.items ≡ out.old.items ++ compact_text (head_tree head.now)) }
 {
-    push_text(out, b"{\"msgId\":", &head.msg_id)?;
-    push_text(out, b",\"orgId\":", &head.org)?;
-    out.extend_from_slice(b",\"ts\":")?;
-    push_moment(out, head.ts)?;
-    out.extend_from_slice(b",\"ver\":\"1.0\"}")?;
-    Ok(())
+    push_head_of(
+        out,
+        head.msg_id.bytes(),
+        head.org.bytes(),
+        head.ts,
+        head.ver,
+    )
 }
 
 // Appends an `Amount`.
@@ -132,50 +158,82 @@ fn push_note(out: &mut Vec<u8>, note: &Option<Note>) -> Result<(), NoMemory>
     Ok(())
 }
 
-// The word of a kind.
-fn kind_text(kind: Kind) -> &'static [u8]
-    ensures { result.now ≡ kind_text kind }
-{
-    match kind {
-        Kind::Pay => b"PAY",
-        Kind::Collect => b"COLLECT",
-    }
-}
-
-// Appends the `Payer` of a payment.
-fn push_payer(out: &mut Vec<u8>, request: &PayReq) -> Result<(), NoMemory>
-    ensures { OnOk result (out.new.items ≡ out.old.items ++ compact_text (payer_tree request.now)) }
-{
-    out.push(b'{')?;
-    push_ac_front(out, &request.payer_ac)?;
-    out.extend_from_slice(b"\"Amount\":")?;
-    push_amount(out, request.amount)?;
-    push_text(out, b",\"addr\":", &request.payer)?;
-    out.push(b'}')?;
-    Ok(())
-}
-
-// Appends the payee of a payment.
-fn push_payee(out: &mut Vec<u8>, request: &PayReq) -> Result<(), NoMemory>
-    ensures { OnOk result (out.new.items ≡ out.old.items ++ compact_text (payee_tree request.now)) }
-{
-    out.push(b'{')?;
-    push_ac_front(out, &request.payee_ac)?;
-    push_text(out, b"\"addr\":", &request.payee)?;
-    out.push(b'}')?;
-    Ok(())
-}
-
-// Appends the `Txn` of a payment.
-fn push_payment(out: &mut Vec<u8>, request: &PayReq) -> Result<(), NoMemory>
+// Appends the `initiationMode` of a payment of version 2.0.
+fn push_mode(out: &mut Vec<u8>, extra: &Option<Extra>) -> Result<(), NoMemory>
     ensures { OnOk result (out.new.items
-        ≡ out.old.items ++ compact_text (payment_tree request.now)) }
+        ≡ out.old.items ++ later_text (codes "initiationMode") (option_map mode_tree extra.now)) }
+{
+    if let Some(extra) = extra {
+        push_text(out, b",\"initiationMode\":", &extra.mode)?;
+    }
+    Ok(())
+}
+
+// Appends the `purpose` of a payment of version 2.0.
+fn push_purpose(out: &mut Vec<u8>, extra: &Option<Extra>) -> Result<(), NoMemory>
+    ensures { OnOk result (out.new.items
+        ≡ out.old.items ++ later_text (codes "purpose") (option_map purpose_tree extra.now)) }
+{
+    if let Some(extra) = extra {
+        push_text(out, b",\"purpose\":", &extra.purpose)?;
+    }
+    Ok(())
+}
+
+// Appends a party with an amount and an address.
+pub(crate) fn push_payer(
+    out: &mut Vec<u8>,
+    ac: &Option<AccountRef>,
+    amount: Paise,
+    addr: &Addr,
+) -> Result<(), NoMemory>
+    ensures { OnOk result (out.new.items
+        ≡ out.old.items ++ compact_text (payer_tree ac.now amount addr.now)) }
 {
     out.push(b'{')?;
-    push_rules_front(out, &request.expire)?;
-    push_text(out, b"\"id\":", &request.txn)?;
-    push_note(out, &request.note)?;
-    push_member(out, b",\"type\":", kind_text(request.kind))?;
+    push_ac_front(out, ac)?;
+    out.extend_from_slice(b"\"Amount\":")?;
+    push_amount(out, amount)?;
+    push_text(out, b",\"addr\":", addr)?;
+    out.push(b'}')?;
+    Ok(())
+}
+
+// Appends a party with an address.
+pub(crate) fn push_payee(
+    out: &mut Vec<u8>,
+    ac: &Option<AccountRef>,
+    addr: &Addr,
+) -> Result<(), NoMemory>
+    ensures { OnOk result (out.new.items
+        ≡ out.old.items ++ compact_text (payee_tree ac.now addr.now)) }
+{
+    out.push(b'{')?;
+    push_ac_front(out, ac)?;
+    push_text(out, b"\"addr\":", addr)?;
+    out.push(b'}')?;
+    Ok(())
+}
+
+// Appends a `Txn` with a type.
+pub(crate) fn push_txn(
+    out: &mut Vec<u8>,
+    expire: &Option<Minutes>,
+    id: &TxnId,
+    extra: &Option<Extra>,
+    note: &Option<Note>,
+    word: &[u8],
+) -> Result<(), NoMemory>
+    ensures { OnOk result (out.new.items
+        ≡ out.old.items ++ compact_text (txn_tree expire.now id.now extra.now note.now word.now)) }
+{
+    out.push(b'{')?;
+    push_rules_front(out, expire)?;
+    push_text(out, b"\"id\":", id)?;
+    push_mode(out, extra)?;
+    push_note(out, note)?;
+    push_purpose(out, extra)?;
+    push_member(out, b",\"type\":", word)?;
     out.push(b'}')?;
     Ok(())
 }
@@ -188,20 +246,21 @@ pub(crate) fn push_pay(out: &mut Vec<u8>, request: &PayReq) -> Result<(), NoMemo
     out.extend_from_slice(b"{\"ReqPay\":{\"Head\":")?;
     push_head(out, &request.head)?;
     out.extend_from_slice(b",\"Payees\":{\"Payee\":[")?;
-    push_payee(out, request)?;
+    push_payee(out, &request.payee_ac, &request.payee)?;
     out.extend_from_slice(b"]},\"Payer\":")?;
-    push_payer(out, request)?;
+    push_payer(out, &request.payer_ac, request.amount, &request.payer)?;
     out.extend_from_slice(b",\"Txn\":")?;
-    push_payment(out, request)?;
+    let word = kind_text(request.kind);
+    push_txn(
+        out,
+        &request.expire,
+        &request.txn,
+        &request.extra,
+        &request.note,
+        word,
+    )?;
     out.extend_from_slice(b"}}")?;
     Ok(())
-}
-
-// The word of a yes or a no.
-fn result_text(yes: bool) -> &'static [u8]
-    ensures { result.now ≡ result_text yes }
-{
-    if yes { b"SUCCESS" } else { b"FAILURE" }
 }
 
 // Appends the `Payees` of an answer that gives the payee's account.
@@ -217,25 +276,65 @@ fn push_payees(out: &mut Vec<u8>, ac: &Option<AccountRef>) -> Result<(), NoMemor
     Ok(())
 }
 
-// Appends the `Payer` of an answer.
-fn push_answer_payer(out: &mut Vec<u8>, answer: &AuthResp) -> Result<(), NoMemory>
+// Appends a party with an amount.
+pub(crate) fn push_answer_payer(
+    out: &mut Vec<u8>,
+    ac: &Option<AccountRef>,
+    amount: Paise,
+) -> Result<(), NoMemory>
     ensures { OnOk result (out.new.items
-        ≡ out.old.items ++ compact_text (answer_payer_tree answer.now)) }
+        ≡ out.old.items ++ compact_text (answer_payer_tree ac.now amount)) }
 {
     out.push(b'{')?;
-    push_ac_front(out, &answer.payer_ac)?;
+    push_ac_front(out, ac)?;
     out.extend_from_slice(b"\"Amount\":")?;
-    push_amount(out, answer.amount)?;
+    push_amount(out, amount)?;
     out.push(b'}')?;
     Ok(())
 }
 
-// Appends the `Resp` of an answer.
-fn push_resp(out: &mut Vec<u8>, answer: &AuthResp) -> Result<(), NoMemory>
-    ensures { OnOk result (out.new.items ≡ out.old.items ++ compact_text (resp_tree answer.now)) }
+// Appends the code of a failure, before the other members of a `Resp`.
+fn push_code_front(out: &mut Vec<u8>, code: Option<Code>) -> Result<(), NoMemory>
+    ensures { OnOk result (out.new.items ≡ out.old.items
+        ++ front_text (codes "errCode") (option_map string (option_map code_text code))) }
 {
-    push_text(out, b"{\"reqMsgId\":", &answer.req_msg)?;
-    push_member(out, b",\"result\":", result_text(answer.yes))?;
+    if let Some(code) = code {
+        push_member(out, b"\"errCode\":", code_word(code))?;
+        out.push(b',')?;
+    }
+    Ok(())
+}
+
+// Appends a `Resp`.
+pub(crate) fn push_resp(
+    out: &mut Vec<u8>,
+    code: Option<Code>,
+    req: &[u8],
+    word: &[u8],
+) -> Result<(), NoMemory>
+    ensures { OnOk result (out.new.items ≡ out.old.items
+        ++ compact_text (resp_tree (option_map code_text code) req.now word.now)) }
+{
+    out.push(b'{')?;
+    push_code_front(out, code)?;
+    push_member(out, b"\"reqMsgId\":", req)?;
+    push_member(out, b",\"result\":", word)?;
+    out.push(b'}')?;
+    Ok(())
+}
+
+// Appends a `Resp` that answers no message.
+pub(crate) fn push_outcome(
+    out: &mut Vec<u8>,
+    code: Option<Code>,
+    word: &[u8],
+) -> Result<(), NoMemory>
+    ensures { OnOk result (out.new.items ≡ out.old.items
+        ++ compact_text (outcome_tree (option_map code_text code) word.now)) }
+{
+    out.push(b'{')?;
+    push_code_front(out, code)?;
+    push_member(out, b"\"result\":", word)?;
     out.push(b'}')?;
     Ok(())
 }
@@ -249,9 +348,10 @@ fn push_answer(out: &mut Vec<u8>, answer: &AuthResp) -> Result<(), NoMemory>
     push_head(out, &answer.head)?;
     push_payees(out, &answer.payee_ac)?;
     out.extend_from_slice(b",\"Payer\":")?;
-    push_answer_payer(out, answer)?;
+    push_answer_payer(out, &answer.payer_ac, answer.amount)?;
     out.extend_from_slice(b",\"Resp\":")?;
-    push_resp(out, answer)?;
+    let word = result_text(answer.yes);
+    push_resp(out, None, answer.req_msg.bytes(), word)?;
     push_text(out, b",\"Txn\":{\"id\":", &answer.txn)?;
     out.extend_from_slice(b"}}}")?;
     Ok(())
@@ -280,18 +380,6 @@ fn push_confirmed(out: &mut Vec<u8>, answer: &ConfResp) -> Result<(), NoMemory>
     push_text(out, b"},\"Txn\":{\"id\":", &answer.txn)?;
     out.extend_from_slice(b"}}}")?;
     Ok(())
-}
-
-// The root name of a message that a PSP may not send.
-fn api_text(api: Api) -> &'static [u8]
-    ensures { result.now ≡ api_text api }
-{
-    match api {
-        Api::RespPay => b"RespPay",
-        Api::ReqAuthDetails => b"ReqAuthDetails",
-        Api::RespChkTxn => b"RespChkTxn",
-        Api::ReqTxnConfirmation => b"ReqTxnConfirmation",
-    }
 }
 
 // Appends a message that a PSP may not send: its `Head` alone.
@@ -326,7 +414,7 @@ pub fn text(alloc: Global, message: &Message, out: &mut Vec<u8>) -> Result<(), N
     ensures ok { OnOk result (out.new.items ≡ out.old.items ++ message_text message.now) }
     ensures err { OnErr result (out.new.items ≡ out.old.items) }
 {
-    let mut written = Vec::new(alloc);
+    let mut written = Vec::with_capacity(alloc, WRITTEN)?;
     push_message(&mut written, message)?;
     out.extend_from_slice(&written)?;
     Ok(())

@@ -1,5 +1,6 @@
 -- The PSP of an address has the name of a PSP.
-use Rattle.std.proofs.Common.{◌≡◌, ℕ, suc, ◌+◌, ◌==◌, Bool, true, false, cond, ◌&&◌, List, [], ◌∷◌, length, drop, refl, sym, ◌∙◌, ap, arith, one-add}
+use Rattle.upi_words.specs.Prelude.{Text}
+use Rattle.std.proofs.Common.{◌≡◌, ℕ, suc, ◌+◌, ◌==◌, Bool, true, false, cond, ◌&&◌, [], ◌∷◌, length, drop, refl, sym, ◌∙◌, ap, arith, one-add}
 use Rattle.std.specs.Prelude.{nat_le, slice_index, if◌then◌else◌}
 use Rattle.std.specs.List.{prefix_len}
 use Rattle.std.proofs.lemmas.Bool.{and_parts}
@@ -22,7 +23,7 @@ passes b on = go (b == 64) refl
     go false e = refl
     go true e = sym on ∙ (ap is_name_byte (eq_of b 64 e) ∙ no_at)
 
-one_more : (b : ℕ) (bs : List ℕ) (v : Bool) → is_name_byte b ≡ v → (slice_index bs (prefix_len is_name_byte bs) ≡ 64 → provider bs ≡ drop (prefix_len is_name_byte bs + 1) bs)
+one_more : (b : ℕ) (bs : Text) (v : Bool) → is_name_byte b ≡ v → (slice_index bs (prefix_len is_name_byte bs) ≡ 64 → provider bs ≡ drop (prefix_len is_name_byte bs + 1) bs)
     → slice_index (b ∷ bs) (cond v (1 + prefix_len is_name_byte bs) 0) ≡ 64 → provider (b ∷ bs) ≡ drop (cond v (1 + prefix_len is_name_byte bs) 0 + 1) (b ∷ bs)
 one_more b bs true on rest at =
     let count = prefix_len is_name_byte bs in
@@ -33,11 +34,11 @@ one_more b bs false off rest at =
     let here : b ≡ 64 = at in
     ap (λ (v : Bool). if v then bs else provider bs) (ap (λ (x : ℕ). x == 64) here)
 
-provider_drop : (text : List ℕ) → slice_index text (prefix_len is_name_byte text) ≡ 64 → provider text ≡ drop (prefix_len is_name_byte text + 1) text
+provider_drop : (text : Text) → slice_index text (prefix_len is_name_byte text) ≡ 64 → provider text ≡ drop (prefix_len is_name_byte text + 1) text
 provider_drop [] at = refl
 provider_drop (b ∷ bs) at = one_more b bs (is_name_byte b) refl (provider_drop bs) at
 
-pub psp_fits : (text : List ℕ) → fits 71 is_address text ≡ true → fits 20 is_psp (provider text) ≡ true
+pub psp_fits : (text : Text) → fits 71 is_address text ≡ true → fits 20 is_psp (provider text) ≡ true
 psp_fits text h =
     let count = prefix_len is_name_byte text in
     let shape = (and_parts (nat_le (length text) 71) (is_address text) h).1 in

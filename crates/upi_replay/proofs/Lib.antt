@@ -1,6 +1,9 @@
-pub mod Messages
+pub mod Writes
+pub mod Looks
+pub mod Strays
 pub mod Steps
-pub mod Says
 pub mod Addresses
-pub mod Sends
+pub mod Says
 pub mod Verdicts
+pub mod Readings
+pub mod Insertions

@@ -1,163 +1,142 @@
--- What a row says of its transaction, and the replies by rows.
-use Rattle.std.proofs.Common.{◌≡◌, ℕ, Bool, true, false, List, [], ◌∷◌, map, Option, Some, None, refl, sym, ◌∙◌, ap, subst}
-use Rattle.std.specs.Prelude.{is_some, if◌then◌else◌}
-use Rattle.std.specs.List.{count_by}
-use Rattle.std.specs.Option.{option_or, option_map}
-use Rattle.upi_base.specs.declared.entry.Entry.{Entry}
-use Rattle.upi_base.specs.declared.entry.Call.{Call}
-use Rattle.upi_base.specs.declared.entry.Call.TheVariants as call
-use Rattle.upi_base.specs.declared.code.Leg.{Leg}
-use Rattle.upi_base.specs.declared.code.Leg.TheVariants as leg
-use Rattle.upi_base.specs.declared.code.Code.TheVariants as code
-use Rattle.upi_base.specs.declared.code.Answer.{Answer}
-use Rattle.upi_base.specs.declared.setup.SetupLine.{SetupLine}
-use Rattle.upi_base.specs.Lists.{when, pick}
-use Rattle.upi_laws.specs.declared.event.Said.{Said}
-use Rattle.upi_laws.specs.declared.event.Said.TheVariants as said
-use Rattle.upi_laws.specs.declared.event.Event.{Event}
-use Rattle.upi_laws.specs.declared.event.Event.TheVariants as event
-use Rattle.upi_laws.specs.declared.places.Opening.{Opening}
-use Rattle.upi_laws.specs.declared.places.Decision.{Decision}
-use Rattle.upi_laws.specs.History.{sent, is_closed, event_of}
-use Rattle.upi_laws.specs.Places.{has_id, if_of, opened, opening, decision, debit, credit, cause_by, reversal}
-use Rattle.upi_laws.specs.Outcomes.{outcome_by, outcome_of}
-use Rattle.upi_laws.specs.Postings.{answer, post, post_leg}
-use Rattle.upi_laws.specs.Dues.{passed, due_by, due_confirm, due, last_sent, orders, confirms, acknowledged}
-use Rattle.upi_laws.specs.Replies.{reply_pay, reply_auth, reply_check, reply_confirmed, late_answer, reply_order, reply_late, reply_heard, reply_answered, reply_on, reply_closed, reply_closed_on, reply_closed_said, reply_to, order_answer}
-use Rattle.upi_base.proofs.Options.{or_both_none, none_some, none_if, none_then}
-use Rattle.upi_laws.proofs.Facts.{answered_opened}
-use Rattle.upi_laws.proofs.Openings.{opening_is_named}
-use Rattle.upi_laws.proofs.Steps.{no_debit_now, no_credit}
+-- Replies and messages follow from how a transaction stands by the rows before an event and with it.
+use Rattle.std.proofs.Common.{◌≡◌, ℕ, Bool, true, false, List, [], ◌∷◌, ◌++◌, Option, refl, sym, ◌∙◌, ap, subst, ◌||◌, length-append}
+use Rattle.std.specs.Prelude.{length, ◌+◌}
+use Rattle.std.proofs.lemmas.List.{reverse-append}
+use Rattle.upi_words.specs.Prelude.{Entry, Call, Reply, Sent, Event, Setup, History, Text, is_closed, event_of}
+use Rattle.upi_model.specs.History.{sent, sent_count, past, put, is_close}
+use Rattle.upi_model.specs.Chronicle.{Chronicle}
+use Rattle.upi_model.specs.Own.{event_with}
+use Rattle.upi_model.specs.Dues.{passed}
+use Rattle.upi_model.specs.Standing.{standing, sendings, shard_opened, is_due_on}
+use Rattle.upi_model.specs.Replies.{reply_to, order_answer, txn_of, reply_by, reply_shut}
+use Rattle.upi_model.specs.Sending.{sends_by, delivered_by, sent_by}
 use Rattle.upi_replay.specs.declared.rows.Row.{Row}
 use Rattle.upi_replay.specs.declared.found.Found.{Found}
-use Rattle.upi_replay.specs.Rows.{row_at, row_of, rows_of, outcome_in, order_answer_in, IsFound, Says, reply_heard_in, reply_answered_in, reply_in, reply_closed_said_in, reply_closed_on_in, reply_closed_in}
-use Rattle.upi_replay.proofs.Steps.{openings_of, post_is, undecided}
+use Rattle.upi_replay.specs.Rows.{rows_of, rows_after, strays_of, strays_after, row_stands, look, shard_found, orders_in, is_due_in, row_then, message_in, IsFound, IsReplay}
+use Rattle.upi_replay.specs.Rooms.{IsSameFound}
+use Rattle.upi_replay.proofs.Looks.{looks, orders_are, due_is, shard_is}
+use Rattle.upi_replay.proofs.Steps.{rows_more, then_is, found_more}
 
--- the row of a name is that of the opening of the name
-pub row_at_is : (S : List SetupLine) (h : List Entry) (t : List ℕ) (os : List Opening) → row_at (map (row_of S h) os) t ≡ option_map (row_of S h) (pick (if_of t) os)
-row_at_is S h t [] = refl
-row_at_is S h t (o ∷ os) = one_more (has_id t o) (row_at_is S h t os)
-  where
-    one_more : (b : Bool) → row_at (map (row_of S h) os) t ≡ option_map (row_of S h) (pick (if_of t) os)
-        → option_or (when b (row_of S h o)) (row_at (map (row_of S h) os) t) ≡ option_map (row_of S h) (option_or (when b o) (pick (if_of t) os))
-    one_more true rest = refl
-    one_more false rest = rest
+-- the message that a call delivers is one of those that were sent
+pub message_is : (h : History) (c : Call) → message_in (sent h) c ≡ delivered_by h c
+message_is h (Call.Deliver n) = refl
+message_is h (Call.Hear p what) = refl
+message_is h (Call.Lose n) = refl
+message_is h (Call.Late t) = refl
+message_is h Call.Close = refl
 
-untold : (S : List SetupLine) (t : List ℕ) (h : List Entry) → opening S t h ≡ None → outcome_of S t h ≡ None
-untold S t h n = ap (λ (d : Option Decision). outcome_by (opening S t h) d (debit S t h) (credit S t h) (is_some (reversal S t h))) (undecided S t h n)
+-- what a call brings, with that message
+pub event_is : (h : History) (c : Call) → event_with (message_in (sent h) c) c ≡ event_of h c
+event_is h (Call.Deliver n) = refl
+event_is h (Call.Hear p what) = refl
+event_is h (Call.Lose n) = refl
+event_is h (Call.Late t) = refl
+event_is h Call.Close = refl
 
-unposted : (S : List SetupLine) (t : List ℕ) (h : List Entry) (l : Leg) → opening S t h ≡ None → order_answer S h t l ≡ None
-unposted S t h l n =
-    or_both_none (answer S h t l) (post S (opened S h) (answer S h) t l)
-    (none_if (answer S h t l) (λ a is. let o = answered_opened S h t l a is in none_some (opening S t h) o.0 n o.1))
-    (none_then (λ (o : Opening). post_leg S (opened S h) (answer S h) o.terms l) (opening S t h) n)
+-- the reply to an event
+replied_rows : (S : Setup) (h : History) (c : Call) (now : ℕ)
+    → reply_by S (shard_found (rows_of S h) (txn_of (event_of h c))) (orders_in S (rows_of S h)) (is_due_in h (rows_of S h) (event_of h c) now) (is_closed h) (look (rows_of S h) (txn_of (event_of h c))) (event_of h c) now ≡ reply_to S h c now
+unfolding reply_to
+replied_rows S h c now =
+    let v = event_of h c in
+    let t = txn_of v in
+    let rows = rows_of S h in
+    let due = is_due_on (is_closed h) (standing S t h) (sendings t h) now in
+    let go : (b : Bool) → is_closed h ≡ b → reply_by S (shard_found rows t) (orders_in S rows) (is_due_in h rows v now) (is_closed h) (look rows t) v now ≡ reply_by S (shard_opened S t h) (order_answer S h) due (is_closed h) (standing S t h) v now
+    = λ b is. elim b as (λ b. is_closed h ≡ b → reply_by S (shard_found rows t) (orders_in S rows) (is_due_in h rows v now) (is_closed h) (look rows t) v now ≡ reply_by S (shard_opened S t h) (order_answer S h) due (is_closed h) (standing S t h) v now) [
+      | true ↦ λ shut. (λ i. reply_by S (shard_found rows t) (orders_in S rows) (is_due_in h rows v now) (shut i) (look rows t) v now) ∙ (ap (λ s. reply_shut s v) (looks S h t) ∙ sym (λ i. reply_by S (shard_opened S t h) (order_answer S h) due (shut i) (standing S t h) v now))
+      | false ↦ λ run. λ i. reply_by S (shard_is S h t i) (orders_are S h i) (passed now (due_is S h t run i)) (is_closed h) (looks S h t i) v now
+    ] is in
+    go (is_closed h) refl
 
-due_open : (S : List SetupLine) (t : List ℕ) (h : List Entry) → is_closed h ≡ false
-    → due S t h ≡ due_by (opening S t h) (outcome_of S t h) (decision S t h) (debit S t h) (cause_by (debit S t h) (credit S t h)) (last_sent (orders t leg.Reversal) h) (due_confirm (count_by (confirms t) (sent h)) (last_sent (confirms t) h) (acknowledged S t h))
-due_open S t h open' =
-    ap (λ (b : Bool). if b then None else due_by (opening S t h) (outcome_of S t h) (decision S t h) (debit S t h) (cause_by (debit S t h) (credit S t h)) (last_sent (orders t leg.Reversal) h) (due_confirm (count_by (confirms t) (sent h)) (last_sent (confirms t) h) (acknowledged S t h))) open'
+pub replied : (S : Setup) (h : History) (f : Found) (c : Call) (e : Event) (now : ℕ) → IsFound S h f → e ≡ event_of h c
+    → reply_by S (shard_found f.rows.items (txn_of e)) (orders_in S f.rows.items) (is_due_in h f.rows.items e now) f.closed (look f.rows.items (txn_of e)) e now ≡ reply_to S h c now
+replied S h f c e now is event_is =
+    (λ i. reply_by S (shard_found (is.rows i) (txn_of (event_is i))) (orders_in S (is.rows i)) (is_due_in h (is.rows i) (event_is i) now) (is.closed i) (look (is.rows i) (txn_of (event_is i))) (event_is i) now)
+    ∙ replied_rows S h c now
 
-says_none : (S : List SetupLine) (h : List Entry) (t : List ℕ) → opening S t h ≡ None → Says S h t None
-says_none S h t n =
-    let undebited = no_debit_now S t h (undecided S t h n) in
-    record {
-      opening = sym n;
-      decision = sym (undecided S t h n);
-      debit = sym undebited;
-      credit = sym (no_credit S t h undebited);
-      outcome = sym (untold S t h n);
-      order = λ l. sym (unposted S t h l n);
-      due = λ open'. sym (due_open S t h open' ∙ ap (λ (o : Option Opening). due_by o (outcome_of S t h) (decision S t h) (debit S t h) (cause_by (debit S t h) (credit S t h)) (last_sent (orders t leg.Reversal) h) (due_confirm (count_by (confirms t) (sent h)) (last_sent (confirms t) h) (acknowledged S t h))) n);
-    }
+-- the entry with which `put` goes on
+asked : Call → ℕ → Entry
+asked c now = record { call = c; at = now; caller = 0; reply = Reply.Told; sent = [] }
 
-pub says_named : (S : List SetupLine) (h : List Entry) (o : Opening) → opening S o.terms.txn h ≡ Some o → Says S h o.terms.txn (Some (row_of S h o))
-says_named S h o is = record {
-  opening = sym is;
-  decision = refl;
-  debit = refl;
-  credit = refl;
-  outcome = ap (λ (x : Option Opening). outcome_by x (decision S t h) (debit S t h) (credit S t h) (is_some (reversal S t h))) (sym is);
-  order = ordered;
-  due = λ open'. sym (due_open S t h open' ∙ (λ i. due_by (is i) (outcome_by (is i) (decision S t h) (debit S t h) (credit S t h) (is_some (reversal S t h))) (decision S t h) (debit S t h) (cause_by (debit S t h) (credit S t h)) (last_sent (orders t leg.Reversal) h) (due_confirm (count_by (confirms t) (sent h)) (last_sent (confirms t) h) (acknowledged S t h))));
-}
-  where
-    t : List ℕ
-    t = o.terms.txn
+rows_then : (S : Setup) (h : History) (c : Call) (now : ℕ) → rows_of S (put h c now) ≡ rows_after S (rows_of S h) (strays_of S h) (is_closed h) (event_of h c) now
+unfolding asked
+rows_then S h c now = rows_more S (asked c now) h
 
-    ordered : (l : Leg) → order_answer_in S (rows_of S h) (Some (row_of S h o)) l ≡ order_answer S h o.terms.txn l
-    ordered leg.Debit = ap (λ (x : Option Answer). option_or (answer S h o.terms.txn leg.Debit) x) (sym (post_is S h o leg.Debit is))
-    ordered leg.Credit = ap (λ (x : Option Answer). option_or (answer S h o.terms.txn leg.Credit) x) (sym (post_is S h o leg.Credit is))
-    ordered leg.Reversal = ap (λ (x : Option Answer). option_or (answer S h o.terms.txn leg.Reversal) x) (sym (post_is S h o leg.Reversal is))
+-- how a transaction stands with an event
+stands_then : (S : Setup) (h : History) (c : Call) (now : ℕ) (t : Text) → row_stands (row_then S (rows_of S h) (strays_of S h) (is_closed h) (event_of h c) now t) ≡ standing S t (put h c now)
+stands_then S h c now t =
+    ap row_stands (then_is S (rows_of S h) (strays_of S h) (is_closed h) (event_of h c) now t)
+    ∙ (ap (λ (rows : List Row). look rows t) (sym (rows_then S h c now)) ∙ looks S (put h c now) t)
 
-pub says : (S : List SetupLine) (h : List Entry) (t : List ℕ) → Says S h t (row_at (rows_of S h) t)
-says S h t = subst (Says S h t) (sym (row_at_is S h t (opened S h))) (go (opening S t h) refl)
-  where
-    go : (o : Option Opening) → opening S t h ≡ o → Says S h t (option_map (row_of S h) o)
-    go None n = says_none S h t n
-    go (Some o) is =
-        let named = opening_is_named S t h o is in
-        subst (λ (x : List ℕ). Says S h x (Some (row_of S h o))) named (says_named S h o (ap (λ (x : List ℕ). opening S x h) named ∙ is))
+-- the messages of an event
+sent_rows : (S : Setup) (h : History) (c : Call) (now : ℕ)
+    → sends_by S (orders_in S (rows_of S h)) (is_due_in h (rows_of S h) (event_of h c) now) (delivered_by h c) (is_closed h) (look (rows_of S h) (txn_of (event_of h c))) (row_stands (row_then S (rows_of S h) (strays_of S h) (is_closed h) (event_of h c) now (txn_of (event_of h c)))) (event_of h c) ≡ sent_by S h c now
+unfolding sent_by
+sent_rows S h c now =
+    let v = event_of h c in
+    let t = txn_of v in
+    let rows = rows_of S h in
+    let m = delivered_by h c in
+    let due = is_due_on (is_closed h) (standing S t h) (sendings t h) now in
+    let after = row_stands (row_then S rows (strays_of S h) (is_closed h) v now t) in
+    let go : (b : Bool) → is_closed h ≡ b → sends_by S (orders_in S rows) (is_due_in h rows v now) m (is_closed h) (look rows t) after v ≡ sends_by S (order_answer S h) due m (is_closed h) (standing S t h) (standing S t (put h c now)) v
+    = λ b is. elim b as (λ b. is_closed h ≡ b → sends_by S (orders_in S rows) (is_due_in h rows v now) m (is_closed h) (look rows t) after v ≡ sends_by S (order_answer S h) due m (is_closed h) (standing S t h) (standing S t (put h c now)) v) [
+      | true ↦ λ shut. (λ i. sends_by S (orders_in S rows) (is_due_in h rows v now) m (shut i) (look rows t) after v) ∙ sym (λ i. sends_by S (order_answer S h) due m (shut i) (standing S t h) (standing S t (put h c now)) v)
+      | false ↦ λ run. λ i. sends_by S (orders_are S h i) (passed now (due_is S h t run i)) m (is_closed h) (looks S h t i) (stands_then S h c now t i) v
+    ] is in
+    go (is_closed h) refl
 
--- the replies by the rows of a history are the definitions'
-heard_is : (S : List SetupLine) (h : List Entry) (p : List ℕ) (what : Said) (now : ℕ) → reply_heard_in S (rows_of S h) p what now ≡ reply_heard S h p what now
-heard_is S h p (said.Pay r) now = λ i. reply_pay S (openings_of S h i) p r ((says S h r.txn).opening i)
-heard_is S h p (said.Auth a) now = λ i. reply_auth S p a now ((says S h a.txn).decision i) ((says S h a.txn).opening i)
-heard_is S h p (said.Check t) now = λ i. reply_check p ((says S h t).outcome i) ((says S h t).opening i)
-heard_is S h p (said.Confirmed t) now = λ i. reply_confirmed p ((says S h t).outcome i) ((says S h t).opening i)
-heard_is S h p said.Foreign now = refl
+pub messages_are : (S : Setup) (h : History) (f : Found) (c : Call) (e : Event) (now : ℕ) (m : Option Sent) → IsFound S h f → e ≡ event_of h c → m ≡ delivered_by h c
+    → sends_by S (orders_in S f.rows.items) (is_due_in h f.rows.items e now) m f.closed (look f.rows.items (txn_of e)) (row_stands (row_then S f.rows.items f.strays.items f.closed e now (txn_of e))) e ≡ sent_by S h c now
+messages_are S h f c e now m is event_is message_is =
+    (λ i. sends_by S (orders_in S (is.rows i)) (is_due_in h (is.rows i) (event_is i) now) (message_is i) (is.closed i) (look (is.rows i) (txn_of (event_is i))) (row_stands (row_then S (is.rows i) (is.strays i) (is.closed i) (event_is i) now (txn_of (event_is i)))) (event_is i))
+    ∙ sent_rows S h c now
 
-answered_is : (S : List SetupLine) (h : List Entry) (t : List ℕ) (l : Leg) → reply_answered_in (row_at (rows_of S h) t) l ≡ reply_answered S h t l
-answered_is S h t leg.Debit = ap (late_answer code.DebitLate) (says S h t).debit
-answered_is S h t leg.Credit = ap (late_answer code.CreditLate) (says S h t).credit
-answered_is S h t leg.Reversal = refl
+-- the sent messages, counted
+pub count_is : (h : History) → length (sent h) ≡ sent_count h
+count_is [] = refl
+count_is (e ∷ h) = length-append (sent h) e.sent ∙ ap (λ n. n + length e.sent) (count_is h)
 
-on_is : (S : List SetupLine) (h : List Entry) (e : Event) (now : ℕ) → is_closed h ≡ false → reply_in S (rows_of S h) h e now ≡ reply_on S h e now
-on_is S h (event.Heard p what) now open' = heard_is S h p what now
-on_is S h event.Unread now open' = refl
-on_is S h (event.Ordered t l) now open' = ap reply_order ((says S h t).order l)
-on_is S h (event.Answered t l a) now open' = answered_is S h t l
-on_is S h event.Told now open' = refl
-on_is S h event.Lost now open' = refl
-on_is S h (event.Late t) now open' = ap (λ (d : Option ℕ). reply_late (passed now d)) ((says S h t).due open')
-on_is S h event.Close now open' = refl
+-- a reply by what a switch keeps
+pub replied_at : (k : Chronicle) (S S' : Setup) (E E' : List Entry) (f : Found) (c : Call) (e : Event) (now : ℕ) → ◌≡◌ {A = Chronicle} (record { setup = S; history = past E }) k → S' ≡ S → E' ≡ E
+    → IsFound S (past E) f → e ≡ event_of k.history c
+    → reply_by S' (shard_found f.rows.items (txn_of e)) (orders_in S' f.rows.items) (is_due_in (past E') f.rows.items e now) f.closed (look f.rows.items (txn_of e)) e now ≡ reply_to k.setup k.history c now
+replied_at k S S' E E' f c e now view setup entries is event_is =
+    (λ i. reply_by (setup i) (shard_found f.rows.items (txn_of e)) (orders_in (setup i) f.rows.items) (is_due_in (past (entries i)) f.rows.items e now) f.closed (look f.rows.items (txn_of e)) e now)
+    ∙ (replied S (past E) f c e now is (event_is ∙ ap (λ (k : Chronicle). event_of k.history c) (sym view))
+    ∙ ap (λ (k : Chronicle). reply_to k.setup k.history c now) view)
 
-closed_said_is : (S : List SetupLine) (h : List Entry) (p : List ℕ) (what : Said) → reply_closed_said_in (rows_of S h) p what ≡ reply_closed_said S h p what
-closed_said_is S h p (said.Check t) = λ i. reply_check p ((says S h t).outcome i) ((says S h t).opening i)
-closed_said_is S h p (said.Pay r) = refl
-closed_said_is S h p (said.Auth a) = refl
-closed_said_is S h p (said.Confirmed t) = refl
-closed_said_is S h p said.Foreign = refl
+-- messages by what a switch keeps
+pub messages_at : (k : Chronicle) (S S' : Setup) (E E' : List Entry) (M M' : List Sent) (f : Found) (c : Call) (e : Event) (now : ℕ) (m : Option Sent) → ◌≡◌ {A = Chronicle} (record { setup = S; history = past E }) k → S' ≡ S → E' ≡ E → M' ≡ M
+    → IsReplay S (past E) M f → e ≡ event_of k.history c → m ≡ message_in M' c
+    → sends_by S' (orders_in S' f.rows.items) (is_due_in (past E') f.rows.items e now) m f.closed (look f.rows.items (txn_of e)) (row_stands (row_then S' f.rows.items f.strays.items f.closed e now (txn_of e))) e ≡ sent_by k.setup k.history c now
+messages_at k S S' E E' M M' f c e now m view setup entries messages is event_is found =
+    (λ i. sends_by (setup i) (orders_in (setup i) f.rows.items) (is_due_in (past (entries i)) f.rows.items e now) m f.closed (look f.rows.items (txn_of e)) (row_stands (row_then (setup i) f.rows.items f.strays.items f.closed e now (txn_of e))) e)
+    ∙ (messages_are S (past E) f c e now m is.found (event_is ∙ ap (λ (k : Chronicle). event_of k.history c) (sym view)) (found ∙ (ap (λ l. message_in l c) (messages ∙ is.messages_are) ∙ message_is (past E) c))
+    ∙ ap (λ (k : Chronicle). sent_by k.setup k.history c now) view)
 
-closed_on_is : (S : List SetupLine) (h : List Entry) (e : Event) → reply_closed_on_in (rows_of S h) e ≡ reply_closed_on S h e
-closed_on_is S h (event.Heard p what) = closed_said_is S h p what
-closed_on_is S h event.Unread = refl
-closed_on_is S h (event.Ordered t l) = refl
-closed_on_is S h (event.Answered t l a) = refl
-closed_on_is S h event.Told = refl
-closed_on_is S h event.Lost = refl
-closed_on_is S h (event.Late t) = refl
-closed_on_is S h event.Close = refl
+-- what a switch keeps with one more entry
+pub replay_more : (k : Chronicle) (S S' : Setup) (E E' : List Entry) (M M' : List Sent) (f f' g : Found) (e : Entry) (event : Event) → ◌≡◌ {A = Chronicle} (record { setup = S; history = past E }) k → S' ≡ S
+    → E' ≡ E ++ e ∷ [] → M' ≡ M ++ e.sent → IsReplay S (past E) M f → IsSameFound f f' → event ≡ event_of k.history e.call
+    → g.rows.items ≡ rows_after S' f'.rows.items f'.strays.items f'.closed event e.at
+    → g.strays.items ≡ strays_after f'.rows.items f'.strays.items f'.closed event
+    → g.closed ≡ (is_close e.call || f'.closed)
+    → IsReplay S (past E') M' g
+replay_more k S S' E E' M M' f f' g e event view setup entries messages is same event_is r s c =
+    let is_event = event_is ∙ ap (λ (k : Chronicle). event_of k.history e.call) (sym view) in
+    let longer : past E' ≡ e ∷ past E = ap past entries ∙ reverse-append E (e ∷ []) in
+    subst (λ (h : History). IsReplay S h M' g) (sym longer) (record {
+      messages_are = messages ∙ ap (λ l. l ++ e.sent) is.messages_are;
+      found = found_more S (past E) e f g is.found
+          (r ∙ (λ i. rows_after (setup i) (same.rows i) (same.strays i) (same.closed i) (is_event i) e.at))
+          (s ∙ (λ i. strays_after (same.rows i) (same.strays i) (same.closed i) (is_event i)))
+          (c ∙ ap (λ (b : Bool). is_close e.call || b) same.closed);
+    })
 
-closed_is : (S : List SetupLine) (h : List Entry) (c : Call) → reply_closed_in (rows_of S h) c (event_of h c) ≡ reply_closed S h c
-closed_is S h (call.Hear p what) = closed_on_is S h (event_of h (call.Hear p what))
-closed_is S h (call.Deliver n) = refl
-closed_is S h (call.Lose n) = refl
-closed_is S h (call.Late t) = refl
-closed_is S h call.Close = refl
-
-pub replied_open : (S : List SetupLine) (h : List Entry) (f : Found) (c : Call) (e : Event) (now : ℕ) → IsFound S h f → f.closed ≡ false → e ≡ event_of h c → reply_in S f.rows.items h e now ≡ reply_to S h c now
-replied_open S h f c e now is open' event_is =
-    let shut : is_closed h ≡ false = sym is.closed ∙ open' in
-    (λ i. reply_in S (is.rows i) h (event_is i) now)
-    ∙ (on_is S h (event_of h c) now shut
-    ∙ sym (ap (λ (b : Bool). if b then reply_closed S h c else reply_on S h (event_of h c) now) shut))
-
-pub replied_closed : (S : List SetupLine) (h : List Entry) (f : Found) (c : Call) (e : Event) (now : ℕ) → IsFound S h f → f.closed ≡ true → e ≡ event_of h c → reply_closed_in f.rows.items c e ≡ reply_to S h c now
-replied_closed S h f c e now is closed event_is =
-    let shut : is_closed h ≡ true = sym is.closed ∙ closed in
-    (λ i. reply_closed_in (is.rows i) c (event_is i))
-    ∙ (closed_is S h c
-    ∙ sym (ap (λ (b : Bool). if b then reply_closed S h c else reply_on S h (event_of h c) now) shut))
-
-pub outcome_found : (S : List SetupLine) (h : List Entry) (f : Found) (t : List ℕ) (r : Option Row) → IsFound S h f → r ≡ row_at f.rows.items t → outcome_in r ≡ outcome_of S t h
-outcome_found S h f t r is at = ap outcome_in at ∙ (ap (λ (rows : List Row). outcome_in (row_at rows t)) is.rows ∙ (says S h t).outcome)
+-- and what contracts see of it
+pub seen_more : (k : Chronicle) (S : Setup) (E E' : List Entry) (e : Entry) → ◌≡◌ {A = Chronicle} (record { setup = S; history = past E }) k → E' ≡ E ++ e ∷ []
+    → ◌≡◌ {A = Chronicle} (record { setup = S; history = past E' }) (record k { history = e ∷ k.history })
+seen_more k S E E' e view entries =
+    (λ i. record { setup = S; history = (ap past entries ∙ reverse-append E (e ∷ [])) i })
+    ∙ ap (λ (k : Chronicle). record k { history = e ∷ k.history }) view

@@ -1,43 +1,39 @@
 //! A call, read with the message that it delivers.
 ghost use Rattle.std.specs.Prelude.{◌≡◌, slice_get};
 ghost use Rattle.std.specs.Option.{option_copied};
-ghost use Rattle.upi_laws.specs.History.{message_at, said_in as said_in_of, heard_from as heard_from_of, said_by as said_by_of, delivered as delivered_of, event_of as event_of_call};
-ghost use Rattle.upi_replay.specs.Rows.{past};
+ghost use Rattle.upi_model.specs.History;
+ghost use Rattle.upi_model.specs.Own;
+ghost use Rattle.upi_replay.specs.Rows;
 
-use upi_base::{Body, Call, Entry, Input, Message, Party, PspName, Sent};
-use upi_laws::{AuthWord, Event, Said};
+use upi_base::{Body, Call, Input, Message, Party, PspName, Sent};
+use upi_model::{AuthWord, Event, Said};
 
-fn nth(sent: &[Sent], place: u64) -> Option<&Sent>
-    ensures { option_copied result ≡ slice_get sent.now place }
+/// The message of a number, counted from 1.
+pub(crate) fn numbered(messages: &[Sent], n: u64) -> Option<&Sent>
+    ensures { option_copied result ≡ History.numbered messages.now n }
 {
-    match sent.get(place as usize) {
+    if n == 0 {
+        return None;
+    }
+    match messages.get((n - 1) as usize) {
         None => None,
         Some(sent) => Some(sent),
     }
 }
 
-/// The message of a number, counted from 1.
-pub(crate) fn message_of<'a>(history: &'a [Entry], n: u64) -> Option<&'a Sent>
-    ensures { option_copied result ≡ message_at (past history.now) n }
+/// The message that a call delivers.
+pub(crate) fn message_in<'a>(messages: &'a [Sent], call: &Call) -> Option<&'a Sent>
+    ensures { option_copied result ≡ Rows.message_in messages.now call.now }
 {
-    if n == 0 {
-        return None;
+    match call {
+        Call::Deliver(n) => numbered(messages, *n),
+        _ => None,
     }
-    let mut left = n - 1;
-    for e in history {
-        let sent = e.sent.items();
-        let count = sent.len() as u64;
-        if left < count {
-            return nth(sent, left);
-        }
-        left -= count;
-    }
-    None
 }
 
 /// What a message says of a payment.
 fn said_in(message: &Message) -> Said
-    ensures { result ≡ said_in_of message.now }
+    ensures { result ≡ History.said_in message.now }
 {
     match message {
         Message::Pay(r) => Said::Pay(r.get().copy()),
@@ -61,7 +57,7 @@ fn said_in(message: &Message) -> Said
 }
 
 fn heard_from(psp: &PspName, input: &Input) -> Event
-    ensures { result ≡ heard_from_of psp.now input.now }
+    ensures { result ≡ History.heard_from psp.now input.now }
 {
     match input {
         Input::Good(message) => Event::Heard {
@@ -73,7 +69,7 @@ fn heard_from(psp: &PspName, input: &Input) -> Event
 }
 
 fn said_by(from: &Party, what: Said) -> Event
-    ensures { result ≡ said_by_of from.now what }
+    ensures { result ≡ History.said_by from.now what }
 {
     match from {
         Party::Psp(psp) => Event::Heard {
@@ -86,7 +82,7 @@ fn said_by(from: &Party, what: Said) -> Event
 }
 
 fn delivered(from: &Party, body: &Body) -> Event
-    ensures { result ≡ delivered_of from.now body.now }
+    ensures { result ≡ History.delivered from.now body.now }
 {
     match body {
         Body::RespAuth { txn, amount, yes } => said_by(
@@ -106,6 +102,7 @@ fn delivered(from: &Party, body: &Body) -> Event
             amount: _amount,
             ac: _ac,
             addr: _addr,
+            extra: _extra,
         } => Event::Ordered {
             txn: txn.copy(),
             leg: *leg,
@@ -130,16 +127,23 @@ fn delivered(from: &Party, body: &Body) -> Event
     }
 }
 
-/// What a call brings.
-pub(crate) fn event_of(history: &[Entry], call: &Call) -> Event
-    ensures { result ≡ event_of_call (past history.now) call.now }
+/// What a delivery brings; that of a message that was never sent counts as told.
+fn read_message(message: Option<&Sent>) -> Event
+    ensures { result ≡ History.read_message (option_copied message.entry) }
+{
+    match message {
+        None => Event::Told,
+        Some(sent) => delivered(&sent.from, &sent.body),
+    }
+}
+
+/// What a call brings, read with the message that it delivers.
+pub(crate) fn event_with(message: Option<&Sent>, call: &Call) -> Event
+    ensures { result ≡ Own.event_with (option_copied message.entry) call.now }
 {
     match call {
         Call::Hear { psp, input } => heard_from(psp, input),
-        Call::Deliver(n) => match message_of(history, *n) {
-            None => Event::Told,
-            Some(sent) => delivered(&sent.from, &sent.body),
-        },
+        Call::Deliver(_) => read_message(message),
         Call::Lose(_) => Event::Lost,
         Call::Late(txn) => Event::Late(txn.copy()),
         Call::Close => Event::Close,

@@ -1,13 +1,13 @@
 //! What a further entry decides.
 ghost use Rattle.std.specs.Prelude.{◌≡◌, Some, List, ℕ};
-ghost use Rattle.upi_laws.specs.Places.{opens as opens_of, opens_on as opens_on_of, opens_said as opens_said_of, decides as decides_of, decides_on as decides_on_of, decides_said as decides_said_of, answers_in_time as answers_in_time_of, yes_or_no as yes_or_no_of, tells as tells_of, ends as ends_of, ends_on as ends_on_of, end_told as end_told_of, reverses as reverses_of, reverses_on as reverses_on_of};
-ghost use Rattle.upi_laws.specs.Dues.{acknowledges as acknowledges_of, acknowledges_on as acknowledges_on_of, acknowledges_said as acknowledges_said_of};
+ghost use Rattle.upi_model.specs.Places;
+ghost use Rattle.upi_model.specs.Dues;
 ghost use Rattle.upi_replay.specs.Rows.{openings};
 
 use crate::rows::Row;
 use crate::rules::{accounts_agree, asked, due_answer, has_txn, refusal, same_leg};
 use upi_base::{Answer, Code, Leg, Moment, Outcome, PspName, SetupLine, TxnId};
-use upi_laws::{AuthWord, Decision, Event, LegEnd, Opening, Said};
+use upi_model::{AuthWord, Decision, Event, LegEnd, Opening, Said};
 
 pub(crate) fn opens_said(
     setup: &[SetupLine],
@@ -16,7 +16,7 @@ pub(crate) fn opens_said(
     psp: &PspName,
     what: &Said,
 ) -> Option<Opening>
-    ensures { result ≡ opens_said_of setup.now (openings rows.now) now psp.now what.now }
+    ensures { result ≡ Places.opens_said setup.now (openings rows.now) now psp.now what.now }
 {
     match what {
         Said::Pay(r) => {
@@ -44,7 +44,7 @@ pub(crate) fn opens(
     event: &Event,
     now: Moment,
 ) -> Option<Opening>
-    ensures { result ≡ opens_of setup.now (openings rows.now) closed event.now now }
+    ensures { result ≡ Places.opens setup.now (openings rows.now) closed event.now now }
 {
     if closed {
         return None;
@@ -62,7 +62,7 @@ fn answers_in_time(
     psp: &PspName,
     word: &AuthWord,
 ) -> bool
-    ensures { result ≡ answers_in_time_of setup.now opening.now now psp.now word.now }
+    ensures { result ≡ Places.answers_in_time setup.now opening.now now psp.now word.now }
 {
     word.txn == opening.terms.txn
         && psp.bytes() == asked(&opening.terms)
@@ -72,7 +72,7 @@ fn answers_in_time(
 }
 
 fn yes_or_no(yes: bool, now: Moment) -> Decision
-    ensures { result ≡ yes_or_no_of yes now }
+    ensures { result ≡ Places.yes_or_no yes now }
 {
     if yes {
         Decision::Yes(now)
@@ -88,7 +88,7 @@ fn decides_said(
     psp: &PspName,
     what: &Said,
 ) -> Option<Decision>
-    ensures { result ≡ decides_said_of setup.now opening.now now psp.now what.now }
+    ensures { result ≡ Places.decides_said setup.now opening.now now psp.now what.now }
 {
     match what {
         Said::Auth(word) => {
@@ -113,7 +113,7 @@ pub(crate) fn decides(
     event: &Event,
     now: Moment,
 ) -> Option<Decision>
-    ensures { result ≡ decides_of setup.now closed (Some opening.now) event.now now }
+    ensures { result ≡ Places.decides setup.now closed (Some opening.now) event.now now }
 {
     if closed {
         return None;
@@ -133,7 +133,7 @@ pub(crate) fn decides(
 }
 
 fn end_told(now: Moment, answer: Answer) -> LegEnd
-    ensures { result ≡ end_told_of now answer }
+    ensures { result ≡ Places.end_told now answer }
 {
     match answer {
         Answer::Posted => LegEnd::Posted(now),
@@ -143,7 +143,7 @@ fn end_told(now: Moment, answer: Answer) -> LegEnd
 
 /// A bank's answer for the leg of the transaction.
 fn tells(txn: &TxnId, leg: Leg, event: &Event) -> Option<Answer>
-    ensures { result ≡ tells_of txn.now leg event.now }
+    ensures { result ≡ Places.tells txn.now leg event.now }
 {
     match event {
         Event::Answered {
@@ -162,7 +162,7 @@ fn tells(txn: &TxnId, leg: Leg, event: &Event) -> Option<Answer>
 }
 
 fn ends_on(txn: &TxnId, leg: Leg, event: &Event, now: Moment, due: u64) -> Option<LegEnd>
-    ensures { result ≡ ends_on_of txn.now leg event.now now due }
+    ensures { result ≡ Places.ends_on txn.now leg event.now now due }
 {
     match event {
         Event::Close => Some(LegEnd::Close),
@@ -189,7 +189,7 @@ pub(crate) fn ends(
     event: &Event,
     now: Moment,
 ) -> Option<LegEnd>
-    ensures { result ≡ ends_of txn.now leg closed due event.now now }
+    ensures { result ≡ Places.ends txn.now leg closed due event.now now }
 {
     if closed {
         return None;
@@ -201,7 +201,7 @@ pub(crate) fn ends(
 }
 
 fn reverses_on(txn: &TxnId, event: &Event, now: Moment) -> Option<Moment>
-    ensures { result ≡ reverses_on_of txn.now event.now now }
+    ensures { result ≡ Places.reverses_on txn.now event.now now }
 {
     match event {
         Event::Close => Some(now),
@@ -220,7 +220,7 @@ pub(crate) fn reverses(
     event: &Event,
     now: Moment,
 ) -> Option<Moment>
-    ensures { result ≡ reverses_of txn.now closed cause event.now now }
+    ensures { result ≡ Places.reverses txn.now closed cause event.now now }
 {
     if closed {
         return None;
@@ -232,7 +232,7 @@ pub(crate) fn reverses(
 }
 
 fn acknowledges_said(opening: &Opening, psp: &PspName, what: &Said) -> bool
-    ensures { result ≡ acknowledges_said_of opening.now psp.now what.now }
+    ensures { result ≡ Dues.acknowledges_said opening.now psp.now what.now }
 {
     match what {
         Said::Confirmed(txn) => {
@@ -243,7 +243,7 @@ fn acknowledges_said(opening: &Opening, psp: &PspName, what: &Said) -> bool
 }
 
 fn acknowledges_on(opening: &Opening, event: &Event) -> bool
-    ensures { result ≡ acknowledges_on_of opening.now event.now }
+    ensures { result ≡ Dues.acknowledges_on opening.now event.now }
 {
     match event {
         Event::Heard { psp, what } => acknowledges_said(opening, psp, what),
@@ -258,7 +258,7 @@ pub(crate) fn acknowledges(
     event: &Event,
     now: Moment,
 ) -> Option<Moment>
-    ensures { result ≡ acknowledges_of (Some opening.now) outcome event.now now }
+    ensures { result ≡ Dues.acknowledges (Some opening.now) outcome event.now now }
 {
     if outcome.is_some() && acknowledges_on(opening, event) {
         Some(now)

@@ -1,18 +1,22 @@
-//! What was found, read: outcomes, balances, and money in flight.
-ghost use Rattle.std.specs.Prelude.{◌≡◌, ◌≤◌, ◌<◌, ◌^◌, List, ℕ};
-ghost use Rattle.upi_base.specs.declared.setup.SetupLine.{SetupLine as ALine};
-ghost use Rattle.upi_base.specs.declared.entry.Entry.{Entry as AnEntry};
-ghost use Rattle.upi_laws.specs.Outcomes.{outcome_of};
-ghost use Rattle.upi_laws.specs.Postings.{balance as balance_of, flight as flight_of};
-ghost use Rattle.upi_replay.specs.Rows.{row_flight, rows_flight};
+//! A switch that was played, read: outcomes, balances, money in flight, and the rows of its
+//! transactions.
+ghost use Rattle.std.specs.Prelude.{◌≡◌, ◌≤◌, ◌<◌, ◌^◌, true, is_some, IfOk, map};
+ghost use Rattle.std.specs.Option.{option_copied};
+ghost use Rattle.upi_base.specs.Setup as Lines;
+ghost use Rattle.upi_model.specs.Outcomes.{outcome_of};
+ghost use Rattle.upi_model.specs.Postings;
+ghost use Rattle.upi_model.specs.Settlement;
+ghost use Rattle.upi_replay.specs.Rows;
+ghost use Rattle.upi_replay.specs.Banked.{IsBanked, AreBanked, row_txn};
 
-use crate::found::Found;
 use crate::postings::{balance, is_posted};
 use crate::rows::{Row, row_at};
-use upi_base::{Account, Outcome, SetupLine, TxnId};
+use crate::switch::Replay;
+use std::alloc::Global;
+use upi_base::{Account, Addr, BankCode, NoMemory, Outcome, SetupLine, TxnId, TxnRow, account_at};
 
 fn in_flight(row: &Row) -> u64
-    ensures flight { result ≡ row_flight row.now }
+    ensures flight { result ≡ Rows.row_flight row.now }
     ensures bound { result ≤ 1_000_000_000_000_000 }
 {
     if is_posted(row.debited) && !is_posted(row.credited) && !is_posted(row.reversed) {
@@ -23,8 +27,8 @@ fn in_flight(row: &Row) -> u64
 }
 
 /// The money in flight over these rows, in paise.
-pub fn all_in_flight(rows: &[Row]) -> u128
-    ensures flight { result ≡ rows_flight rows.now }
+fn all_in_flight(rows: &[Row]) -> u128
+    ensures flight { result ≡ Rows.rows_flight rows.now }
     ensures bound { result < 2 ^ 120 }
 {
     let mut sum: u128 = 0;
@@ -34,31 +38,82 @@ pub fn all_in_flight(rows: &[Row]) -> u128
     sum
 }
 
-impl Found {
-    ghost use Rattle.upi_replay.specs.Rows.{IsFound};
+fn outcome_in(row: Option<&Row>) -> Option<Outcome>
+    ensures { result ≡ Rows.outcome_in (option_copied row.entry) }
+{
+    match row {
+        None => None,
+        Some(row) => row.outcome(),
+    }
+}
 
+/// The bank of the account of an address that has one.
+fn bank_at(setup: &[SetupLine], addr: &Addr) -> BankCode
+    requires { is_some (Lines.account_at setup.now addr.now) ≡ true }
+    ensures { result ≡ Settlement.bank_at setup.now addr.now }
+{
+    match account_at(setup, addr) {
+        Some(account) => account.ac.bank,
+        None => unreachable!(),
+    }
+}
+
+/// A transaction as settlement and the report see it.
+fn txn_of_row(setup: &[SetupLine], row: &Row) -> TxnRow
+    requires { IsBanked setup.now row.now }
+    ensures { result ≡ row_txn setup.now row.now }
+{
+    let terms = &row.opening.terms;
+    TxnRow {
+        txn: terms.txn.copy(),
+        payer_bank: bank_at(setup, &terms.payer),
+        payee_bank: bank_at(setup, &terms.payee),
+        amount: terms.amount,
+        outcome: row.outcome(),
+        credit_moved: is_posted(row.credited),
+    }
+}
+
+fn all_txns(alloc: Global, setup: &[SetupLine], rows: &[Row]) -> Result<Vec<TxnRow>, NoMemory>
+    requires { AreBanked setup.now rows.now }
+    ensures { IfOk result (λ v. v.items ≡ map (row_txn setup.now) rows.now) }
+{
+    let mut all = Vec::new(alloc);
+    for row in rows {
+        all.push(txn_of_row(setup, row))?;
+    }
+    Ok(all)
+}
+
+impl Replay {
     /// The outcome of a transaction, if it has one.
     pub fn outcome(&self, txn: &TxnId) -> Option<Outcome>
-        ensures { (S : List ALine) (h : List AnEntry) → IsFound S h self.now → result ≡ outcome_of S txn.now h }
+        ensures { result ≡ outcome_of self.now.setup txn.now self.now.history }
     {
-        match row_at(&self.rows, txn) {
-            None => None,
-            Some(row) => row.outcome(),
-        }
+        outcome_in(row_at(&self.found.rows, txn))
     }
 
     /// The balance of an account, in paise.
-    pub fn balance(&self, setup: &[SetupLine], account: &Account) -> u128
-        ensures { (h : List AnEntry) → IsFound setup.now h self.now → result ≡ balance_of setup.now account.now h }
+    pub fn balance(&self, account: &Account) -> u128
+        ensures { result ≡ Postings.balance self.now.setup account.now self.now.history }
     {
-        balance(setup, &self.rows, account)
+        balance(self.lines.items(), &self.found.rows, account)
     }
 
     /// The money in flight, in paise: what was taken from a payer, and neither given to the payee
     /// nor returned.
     pub fn flight(&self) -> u128
-        ensures { (S : List ALine) (h : List AnEntry) → IsFound S h self.now → result ≡ flight_of S h }
+        ensures { result ≡ Postings.flight self.now.setup self.now.history }
     {
-        all_in_flight(&self.rows)
+        all_in_flight(&self.found.rows)
+    }
+
+    /// The transactions as settlement and the report see them, in opening order. It fails only for
+    /// want of memory.
+    pub fn rows(&self) -> Result<Vec<TxnRow>, NoMemory>
+        ensures { IfOk result (λ v. v.items ≡ Settlement.txn_rows self.now.setup self.now.history) }
+    {
+        let all = all_txns(self.alloc, self.lines.items(), &self.found.rows)?;
+        Ok(all)
     }
 }

@@ -1,20 +1,43 @@
 //! The reply to a call, by what was found.
 ghost use Rattle.std.specs.Prelude.{◌≡◌};
 ghost use Rattle.std.specs.Option.{option_copied};
-ghost use Rattle.upi_laws.specs.Replies.{repeats as repeats_of, reply_pay as reply_pay_of, reply_decided as reply_decided_of, reply_auth as reply_auth_of, reply_check as reply_check_of, reply_confirmed as reply_confirmed_of, late_answer as late_answer_of, reply_order as reply_order_of, reply_to as reply_to_of};
-ghost use Rattle.upi_replay.specs.Rows.{openings, opening_in, decision_in, debit_in, credit_in, outcome_in, past, reply_answered_in, reply_closed_in, reply_closed_on_in, reply_closed_said_in, reply_heard_in, reply_in};
+ghost use Rattle.std.specs.List.{count_by};
+ghost use Rattle.upi_base.specs.Shards;
+ghost use Rattle.upi_model.specs.Places.{in_shard};
+ghost use Rattle.upi_model.specs.Replies;
+ghost use Rattle.upi_replay.specs.Rows.{openings, opening_in, decision_in, debit_in, credit_in, outcome_in, row_stands, look, shard_found, orders_in, is_due_in};
+ghost use Rattle.upi_model.specs.History.{past};
 
 use crate::dues::is_due;
-use crate::events::event_of;
 use crate::found::Found;
 use crate::postings::order_answer;
 use crate::rows::{Row, late_code, row_at};
 use crate::rules::{accounts_agree, asked, asking, due_answer, minutes, refusal, same_kind};
-use upi_base::{Answer, Call, Code, Entry, Leg, Moment, PayReq, PspName, Reply, SetupLine};
-use upi_laws::{AuthWord, Decision, Event, LegEnd, Opening, Said};
+use upi_base::{Answer, Code, Entry, Extra, Leg, Moment, PayReq, PspName, Reply, SetupLine, Ver};
+use upi_model::{AuthWord, Decision, Event, LegEnd, Opening, Said};
 
+fn same_ver(a: Ver, b: Ver) -> bool
+    ensures { result ≡ Replies.same_ver a b }
+{
+    match (a, b) {
+        (Ver::One, Ver::One) | (Ver::Two, Ver::Two) => true,
+        _ => false,
+    }
+}
+
+fn same_extra(a: &Option<Extra>, b: &Option<Extra>) -> bool
+    ensures { result ≡ Replies.same_extra a.now b.now }
+{
+    match (a, b) {
+        (None, None) => true,
+        (Some(a), Some(b)) => a.mode == b.mode && a.purpose == b.purpose,
+        _ => false,
+    }
+}
+
+/// Whether a payment comes again as it was opened.
 fn repeats(opened: &PayReq, psp: &PspName, r: &PayReq) -> bool
-    ensures { result ≡ repeats_of opened.now psp.now r.now }
+    ensures { result ≡ Replies.repeats opened.now psp.now r.now }
 {
     asking(opened) == psp.bytes()
         && same_kind(opened.kind, r.kind)
@@ -22,6 +45,8 @@ fn repeats(opened: &PayReq, psp: &PspName, r: &PayReq) -> bool
         && opened.payee == r.payee
         && opened.amount == r.amount
         && minutes(opened) == minutes(r)
+        && same_ver(opened.head.ver, r.head.ver)
+        && same_extra(&opened.extra, &r.extra)
 }
 
 fn reply_pay(
@@ -31,7 +56,7 @@ fn reply_pay(
     r: &PayReq,
     row: Option<&Row>,
 ) -> Reply
-    ensures { result ≡ reply_pay_of setup.now (openings rows.now) psp.now r.now (opening_in (option_copied row.entry)) }
+    ensures { result ≡ Replies.reply_pay_on setup.now (count_by (in_shard (Shards.txn_shard r.now.txn)) (openings rows.now)) (opening_in (option_copied row.entry)) psp.now r.now }
 {
     match row {
         Some(row) => {
@@ -46,7 +71,7 @@ fn reply_pay(
 }
 
 fn reply_decided(opening: &Opening, yes: bool, now: Moment, decision: Option<Decision>) -> Reply
-    ensures { result ≡ reply_decided_of opening.now yes now decision }
+    ensures { result ≡ Replies.reply_decided opening.now yes now decision }
 {
     let late = Reply::Ack(Some(late_code(opening.terms.kind)));
     match &decision {
@@ -83,7 +108,7 @@ fn reply_auth(
     now: Moment,
     row: Option<&Row>,
 ) -> Reply
-    ensures { result ≡ reply_auth_of setup.now psp.now word.now now (decision_in (option_copied row.entry)) (opening_in (option_copied row.entry)) }
+    ensures { result ≡ Replies.reply_auth setup.now psp.now word.now now (decision_in (option_copied row.entry)) (opening_in (option_copied row.entry)) }
 {
     match row {
         None => Reply::Ack(Some(Code::NoTxn)),
@@ -103,7 +128,7 @@ fn reply_auth(
 }
 
 fn reply_check(psp: &PspName, row: Option<&Row>) -> Reply
-    ensures { result ≡ reply_check_of psp.now (outcome_in (option_copied row.entry)) (opening_in (option_copied row.entry)) }
+    ensures { result ≡ Replies.reply_check psp.now (outcome_in (option_copied row.entry)) (opening_in (option_copied row.entry)) }
 {
     match row {
         None => Reply::Ack(Some(Code::NoTxn)),
@@ -119,7 +144,7 @@ fn reply_check(psp: &PspName, row: Option<&Row>) -> Reply
 }
 
 fn reply_confirmed(psp: &PspName, row: Option<&Row>) -> Reply
-    ensures { result ≡ reply_confirmed_of psp.now (outcome_in (option_copied row.entry)) (opening_in (option_copied row.entry)) }
+    ensures { result ≡ Replies.reply_confirmed psp.now (outcome_in (option_copied row.entry)) (opening_in (option_copied row.entry)) }
 {
     match row {
         None => Reply::Ack(Some(Code::NoTxn)),
@@ -136,7 +161,7 @@ fn reply_confirmed(psp: &PspName, row: Option<&Row>) -> Reply
 }
 
 fn late_answer(code: Code, end: Option<LegEnd>) -> Reply
-    ensures { result ≡ late_answer_of code end }
+    ensures { result ≡ Replies.late_answer code end }
 {
     match &end {
         Some(LegEnd::Late) => Reply::Ack(Some(code)),
@@ -147,7 +172,7 @@ fn late_answer(code: Code, end: Option<LegEnd>) -> Reply
     }
 }
 
-fn debit_of(row: Option<&Row>) -> Option<LegEnd>
+pub(crate) fn debit_of(row: Option<&Row>) -> Option<LegEnd>
     ensures { result ≡ debit_in (option_copied row.entry) }
 {
     match row {
@@ -156,7 +181,7 @@ fn debit_of(row: Option<&Row>) -> Option<LegEnd>
     }
 }
 
-fn credit_of(row: Option<&Row>) -> Option<LegEnd>
+pub(crate) fn credit_of(row: Option<&Row>) -> Option<LegEnd>
     ensures { result ≡ credit_in (option_copied row.entry) }
 {
     match row {
@@ -166,7 +191,7 @@ fn credit_of(row: Option<&Row>) -> Option<LegEnd>
 }
 
 fn reply_answered(row: Option<&Row>, leg: Leg) -> Reply
-    ensures { result ≡ reply_answered_in (option_copied row.entry) leg }
+    ensures { result ≡ Replies.reply_ended (row_stands (option_copied row.entry)) leg }
 {
     match leg {
         Leg::Debit => late_answer(Code::DebitLate, debit_of(row)),
@@ -176,7 +201,7 @@ fn reply_answered(row: Option<&Row>, leg: Leg) -> Reply
 }
 
 fn reply_order(answer: Option<Answer>) -> Reply
-    ensures { result ≡ reply_order_of answer }
+    ensures { result ≡ Replies.reply_order answer }
 {
     match answer {
         None => Reply::Told,
@@ -185,11 +210,9 @@ fn reply_order(answer: Option<Answer>) -> Reply
 }
 
 impl Found {
-    ghost use Rattle.upi_replay.specs.Rows.{IsFound};
-
     /// The reply to what a PSP says.
     fn reply_heard(&self, setup: &[SetupLine], psp: &PspName, what: &Said, now: Moment) -> Reply
-        ensures { result ≡ reply_heard_in setup.now self.now.rows.items psp.now what.now now }
+        ensures { result ≡ Replies.reply_said setup.now (shard_found self.now.rows.items (Replies.txn_said what.now)) (look self.now.rows.items (Replies.txn_said what.now)) psp.now what.now now }
     {
         match what {
             Said::Pay(r) => reply_pay(setup, &self.rows, psp, r, row_at(&self.rows, &r.txn)),
@@ -202,7 +225,7 @@ impl Found {
 
     /// The reply to an event, before the close.
     fn reply_on(&self, setup: &[SetupLine], history: &[Entry], event: &Event, now: Moment) -> Reply
-        ensures { result ≡ reply_in setup.now self.now.rows.items (past history.now) event.now now }
+        ensures { result ≡ Replies.reply_running setup.now (shard_found self.now.rows.items (Replies.txn_of event.now)) (orders_in setup.now self.now.rows.items) (is_due_in (past history.now) self.now.rows.items event.now now) (look self.now.rows.items (Replies.txn_of event.now)) event.now now }
     {
         match event {
             Event::Heard { psp, what } => self.reply_heard(setup, psp, what, now),
@@ -230,7 +253,7 @@ impl Found {
     }
 
     fn reply_closed_said(&self, psp: &PspName, what: &Said) -> Reply
-        ensures { result ≡ reply_closed_said_in self.now.rows.items psp.now what.now }
+        ensures { result ≡ Replies.reply_shut_said (look self.now.rows.items (Replies.txn_said what.now)) psp.now what.now }
     {
         match what {
             Said::Check(txn) => reply_check(psp, row_at(&self.rows, txn)),
@@ -238,8 +261,9 @@ impl Found {
         }
     }
 
-    fn reply_closed_on(&self, event: &Event) -> Reply
-        ensures { result ≡ reply_closed_on_in self.now.rows.items event.now }
+    /// The reply to an event, after the close.
+    fn reply_closed(&self, event: &Event) -> Reply
+        ensures { result ≡ Replies.reply_shut (look self.now.rows.items (Replies.txn_of event.now)) event.now }
     {
         match event {
             Event::Heard { psp, what } => self.reply_closed_said(psp, what),
@@ -248,29 +272,20 @@ impl Found {
         }
     }
 
-    /// The reply to a call, after the close.
-    fn reply_closed(&self, call: &Call, event: &Event) -> Reply
-        ensures { result ≡ reply_closed_in self.now.rows.items call.now event.now }
+    /// The reply to an event at a moment, behind a history.
+    pub(crate) fn reply(
+        &self,
+        setup: &[SetupLine],
+        history: &[Entry],
+        event: &Event,
+        now: Moment,
+    ) -> Reply
+        ensures { result ≡ Replies.reply_by setup.now (shard_found self.now.rows.items (Replies.txn_of event.now)) (orders_in setup.now self.now.rows.items) (is_due_in (past history.now) self.now.rows.items event.now now) self.now.closed (look self.now.rows.items (Replies.txn_of event.now)) event.now now }
     {
-        match call {
-            Call::Hear {
-                psp: _psp,
-                input: _input,
-            } => self.reply_closed_on(event),
-            _ => Reply::Ack(Some(Code::Closed)),
-        }
-    }
-
-    /// The reply to a call at a moment, behind the history of which this was found.
-    pub fn reply(&self, setup: &[SetupLine], history: &[Entry], call: &Call, now: Moment) -> Reply
-        requires { IsFound setup.now (past history.now) self.now }
-        ensures { result ≡ reply_to_of setup.now (past history.now) call.now now }
-    {
-        let event = event_of(history, call);
         if self.closed {
-            self.reply_closed(call, &event)
+            self.reply_closed(event)
         } else {
-            self.reply_on(setup, history, &event, now)
+            self.reply_on(setup, history, event, now)
         }
     }
 }

@@ -1,12 +1,14 @@
 //! What was found of each transaction.
 ghost use Rattle.std.specs.Prelude.{◌≡◌, ◌+◌, is_some, Some};
 ghost use Rattle.std.specs.Option.{option_copied};
-ghost use Rattle.upi_laws.specs.Outcomes.{late_code as late_code_of, late_outcome as late_outcome_of, credit_outcome as credit_outcome_of, debit_outcome as debit_outcome_of, outcome_by};
-ghost use Rattle.upi_laws.specs.Places.{due_debit as due_debit_of, due_credit as due_credit_of, cause_by};
-ghost use Rattle.upi_replay.specs.Rows.{row_at as row_at_of, row_outcome};
+ghost use Rattle.std.specs.List.{list_any};
+ghost use Rattle.upi_model.specs.Outcomes;
+ghost use Rattle.upi_model.specs.Places;
+ghost use Rattle.upi_replay.specs.Rows;
 
-use upi_base::{Answer, Code, Kind, Moment, Outcome, TxnId};
-use upi_laws::{Decision, LegEnd, Opening};
+use crate::rules::same_leg;
+use upi_base::{Answer, Code, DUE_SECONDS, Kind, Leg, Moment, Outcome, TxnId};
+use upi_model::{Decision, LegEnd, Opening};
 
 /// A transaction: its opening, what decided it so far, and how its legs were answered.
 #[derive(Drop)]
@@ -22,9 +24,16 @@ pub struct Row {
     pub acknowledged: Option<Moment>,
 }
 
+/// A leg whose order arrived before its transaction was opened.
+#[derive(Drop)]
+pub struct Stray {
+    pub txn: TxnId,
+    pub its_leg: Leg,
+}
+
 /// The row of a transaction.
 pub fn row_at<'a>(rows: &'a [Row], txn: &TxnId) -> Option<&'a Row>
-    ensures { option_copied result ≡ row_at_of rows.now txn.now }
+    ensures { option_copied result ≡ Rows.row_at rows.now txn.now }
 {
     for row in rows {
         if row.opening.terms.txn == *txn {
@@ -34,9 +43,32 @@ pub fn row_at<'a>(rows: &'a [Row], txn: &TxnId) -> Option<&'a Row>
     None
 }
 
+/// Whether an order for this leg arrived before its transaction was opened.
+fn is_strayed(strays: &[Stray], txn: &TxnId, leg: Leg) -> bool
+    ensures { result ≡ list_any (Rows.is_stray txn.now leg) strays.now }
+{
+    for stray in strays {
+        if stray.txn == *txn && same_leg(stray.its_leg, leg) {
+            return true;
+        }
+    }
+    false
+}
+
+/// How a leg was answered that arrived before its transaction was opened.
+pub(crate) fn stray_answer(strays: &[Stray], txn: &TxnId, leg: Leg) -> Option<Answer>
+    ensures { result ≡ Rows.stray_answer strays.now txn.now leg }
+{
+    if is_strayed(strays, txn, leg) {
+        Some(Answer::Declined(Code::Nothing))
+    } else {
+        None
+    }
+}
+
 /// The code of an answer that didn't come in time.
 pub(crate) fn late_code(kind: Kind) -> Code
-    ensures { result ≡ late_code_of kind }
+    ensures { result ≡ Outcomes.late_code kind }
 {
     match kind {
         Kind::Pay => Code::AuthLate,
@@ -45,7 +77,7 @@ pub(crate) fn late_code(kind: Kind) -> Code
 }
 
 fn credit_outcome(credit: Option<LegEnd>, reversed: bool) -> Option<Outcome>
-    ensures { result ≡ credit_outcome_of credit reversed }
+    ensures { result ≡ Outcomes.credit_outcome credit reversed }
 {
     match credit {
         None => None,
@@ -63,7 +95,7 @@ fn credit_outcome(credit: Option<LegEnd>, reversed: bool) -> Option<Outcome>
 }
 
 fn debit_outcome(debit: Option<LegEnd>, credit: Option<LegEnd>, reversed: bool) -> Option<Outcome>
-    ensures { result ≡ debit_outcome_of debit credit reversed }
+    ensures { result ≡ Outcomes.debit_outcome debit credit reversed }
 {
     match debit {
         None => None,
@@ -88,7 +120,7 @@ pub(crate) fn outcome_from(
     credit: Option<LegEnd>,
     reversed: bool,
 ) -> Option<Outcome>
-    ensures { result ≡ outcome_by (Some opening.now) decision debit credit reversed }
+    ensures { result ≡ Outcomes.outcome_by (Some opening.now) decision debit credit reversed }
 {
     match decision {
         None => None,
@@ -99,36 +131,36 @@ pub(crate) fn outcome_from(
     }
 }
 
-/// Thirty seconds after a moment.
-fn thirty_after(at: &Moment) -> u64
-    ensures { result ≡ at.now + 30 }
+/// The due moment after a moment.
+fn due_after(at: &Moment) -> u64
+    ensures { result ≡ at.now + DUE_SECONDS }
 {
-    at.get() + 30
+    at.get() + DUE_SECONDS
 }
 
 /// When the debit is due, by the decision.
 pub(crate) fn due_debit(decision: Option<Decision>) -> Option<u64>
-    ensures { result ≡ due_debit_of decision }
+    ensures { result ≡ Places.due_debit decision }
 {
     match &decision {
-        Some(Decision::Yes(at)) => Some(thirty_after(at)),
+        Some(Decision::Yes(at)) => Some(due_after(at)),
         _ => None,
     }
 }
 
 /// When the credit is due, by the debit.
 pub(crate) fn due_credit(debit: Option<LegEnd>) -> Option<u64>
-    ensures { result ≡ due_credit_of debit }
+    ensures { result ≡ Places.due_credit debit }
 {
     match &debit {
-        Some(LegEnd::Posted(at)) => Some(thirty_after(at)),
+        Some(LegEnd::Posted(at)) => Some(due_after(at)),
         _ => None,
     }
 }
 
 /// Why a reversal is wanted, if it is.
 pub(crate) fn cause_from(debit: Option<LegEnd>, credit: Option<LegEnd>) -> Option<Code>
-    ensures { result ≡ cause_by debit credit }
+    ensures { result ≡ Places.cause_by debit credit }
 {
     match debit {
         Some(LegEnd::Late) => Some(Code::DebitLate),
@@ -137,7 +169,7 @@ pub(crate) fn cause_from(debit: Option<LegEnd>, credit: Option<LegEnd>) -> Optio
 }
 
 fn declined(credit: Option<LegEnd>) -> Option<Code>
-    ensures { result ≡ Rattle.upi_replay.specs.Rows.declined_code credit }
+    ensures { result ≡ Rows.declined_code credit }
 {
     match credit {
         Some(LegEnd::Declined(code)) => Some(code),
@@ -146,26 +178,43 @@ fn declined(credit: Option<LegEnd>) -> Option<Code>
 }
 
 impl Row {
-    /// The row of a transaction that has just opened.
-    pub(crate) fn new(opening: Opening) -> Row
-        ensures { result ≡ Rattle.upi_replay.specs.Rows.new_row opening }
+    /// The row of a transaction that has just opened. Legs that arrived before are answered.
+    pub(crate) fn new(opening: Opening, strays: &[Stray]) -> Row
+        ensures { result ≡ Rows.new_row strays.now opening }
     {
         Row {
-            opening,
             decision: None,
             debit: None,
             credit: None,
             reversal: None,
-            debited: None,
-            credited: None,
-            reversed: None,
+            debited: stray_answer(strays, &opening.terms.txn, Leg::Debit),
+            credited: stray_answer(strays, &opening.terms.txn, Leg::Credit),
+            reversed: stray_answer(strays, &opening.terms.txn, Leg::Reversal),
             acknowledged: None,
+            opening,
+        }
+    }
+
+    /// The same row.
+    pub(crate) fn copy(&self) -> Row
+        ensures { result ≡ self.now }
+    {
+        Row {
+            opening: self.opening.copy(),
+            decision: self.decision,
+            debit: self.debit,
+            credit: self.credit,
+            reversal: self.reversal,
+            debited: self.debited,
+            credited: self.credited,
+            reversed: self.reversed,
+            acknowledged: self.acknowledged,
         }
     }
 
     /// The outcome, if there is one.
     pub fn outcome(&self) -> Option<Outcome>
-        ensures { result ≡ row_outcome self.now }
+        ensures { result ≡ Rows.row_outcome self.now }
     {
         outcome_from(
             &self.opening,

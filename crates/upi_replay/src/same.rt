@@ -2,8 +2,8 @@
 ghost use Rattle.std.specs.Prelude.{◌≡◌, IsTrue, ◌↔◌};
 
 use upi_base::{
-    AccountRef, Addr, Answer, AuthQuestion, Body, Kind, Leg, MsgId, Outcome, Paise, Party, Reply,
-    Sent, TxnId,
+    AccountRef, Addr, Answer, AuthQuestion, Body, Extra, Kind, Leg, MsgId, Outcome, Paise, Party,
+    Reply, Sent, TxnId,
 };
 
 /// Whether two replies are one.
@@ -53,8 +53,22 @@ fn same_account(a: &AccountRef, b: &AccountRef) -> bool
     a == b
 }
 
-fn is_order(txn: &TxnId, leg: Leg, amount: Paise, ac: &AccountRef, addr: &Addr, body: &Body) -> bool
-    ensures { IsTrue result ↔ (Body.Order txn.now leg amount ac.now addr.now ≡ body.now) }
+fn same_extra(a: &Option<Extra>, b: &Option<Extra>) -> bool
+    ensures { IsTrue result ↔ (a.now ≡ b.now) }
+{
+    a == b
+}
+
+fn is_order(
+    txn: &TxnId,
+    leg: Leg,
+    amount: Paise,
+    ac: &AccountRef,
+    addr: &Addr,
+    extra: &Option<Extra>,
+    body: &Body,
+) -> bool
+    ensures { IsTrue result ↔ (Body.Order txn.now leg amount ac.now addr.now extra.now ≡ body.now) }
 {
     match body {
         Body::Order {
@@ -63,7 +77,15 @@ fn is_order(txn: &TxnId, leg: Leg, amount: Paise, ac: &AccountRef, addr: &Addr, 
             amount: a,
             ac: c,
             addr: d,
-        } => txn == t && leg == *l && amount == *a && same_account(ac, c) && addr == d,
+            extra: e,
+        } => {
+            txn == t
+                && leg == *l
+                && amount == *a
+                && same_account(ac, c)
+                && addr == d
+                && same_extra(extra, e)
+        }
         _ => false,
     }
 }
@@ -129,7 +151,8 @@ fn same_body(a: &Body, b: &Body) -> bool
             amount,
             ac,
             addr,
-        } => is_order(txn, *leg, *amount, ac, addr, b),
+            extra,
+        } => is_order(txn, *leg, *amount, ac, addr, extra, b),
         Body::LegAnswer { txn, leg, answer } => is_answer(txn, *leg, *answer, b),
         Body::Result {
             txn,
@@ -145,7 +168,10 @@ fn same_body(a: &Body, b: &Body) -> bool
 fn same_message(a: &Sent, b: &Sent) -> bool
     ensures { IsTrue result ↔ (a.now ≡ b.now) }
 {
-    same_party(&a.from, &b.from) && same_party(&a.to, &b.to) && same_body(&a.body, &b.body)
+    same_party(&a.from, &b.from)
+        && same_party(&a.to, &b.to)
+        && same_body(&a.body, &b.body)
+        && a.ver == b.ver
 }
 
 /// Whether two lists of messages are one.

@@ -1,29 +1,32 @@
 //! The messages that a call sends, by what was found.
 ghost use Rattle.std.specs.Prelude.{◌≡◌, ◌++◌, Some, IfOk, OnOk};
 ghost use Rattle.std.specs.Option.{option_copied};
-ghost use Rattle.upi_base.specs.Setup.{provider as provider_of};
-ghost use Rattle.upi_laws.specs.Sending.{question as question_of, order_at as order_at_of, order as order_of, confirmation as confirmation_of, confirm as confirm_of, outcome_messages as outcome_messages_of, anew as anew_of, sent_on_opening as sent_on_opening_of, sent_on_decision as sent_on_decision_of, sent_on_debit as sent_on_debit_of, sent_on_credit as sent_on_credit_of, sent_on_reversal as sent_on_reversal_of, again as again_of, sent_again as sent_again_of, sent_by_places as sent_by_places_of, bank_answer as bank_answer_of, model_word as model_word_of, model_answer_by as model_answer_by_of, sent_by};
-ghost use Rattle.upi_replay.specs.Rows.{past};
-ghost use Rattle.upi_replay.specs.Sends.{result_message as result_of, word_message as word_of, steps_in as steps_of, outcome_after as outcome_after_of, new_steps as new_steps_of, sent_by_row as sent_by_row_of, sent_on_event_in, sent_on_late_in, sent_on_said_in, sent_on_in, receiver_answer_in, answered_message_in, receiver_answers_in};
+ghost use Rattle.upi_base.specs.Setup;
+ghost use Rattle.upi_model.specs.Sending;
+ghost use Rattle.upi_model.specs.Dues.{passed};
+ghost use Rattle.upi_model.specs.History.{past};
+ghost use Rattle.upi_model.specs.Replies.{txn_said, txn_of};
+ghost use Rattle.upi_replay.specs.Rows.{row_then, row_at as row_at_of, opening_in, decision_in, reversal_in, row_stands, look, due_in, is_due_in, orders_in};
+ghost use Rattle.upi_replay.specs.Sends;
 
 use crate::dues::is_due;
-use crate::events::{event_of, message_of};
-use crate::found::{Found, or_at, or_decided, or_ended};
-use crate::places::{decides, ends, opens_said, reverses};
-use crate::postings::{order_answer, posted_at};
-use crate::rows::{Row, cause_from, due_credit, due_debit, outcome_from, row_at};
+use crate::found::Found;
+use crate::postings::{bank_answer, order_answer, posted_at};
+use crate::psps::model_answer;
+use crate::replies::{credit_of, debit_of};
+use crate::rows::{Row, cause_from, row_at};
 use crate::rules::{asked_addr, asking_addr, side};
 use std::alloc::Global;
 use upi_base::{
-    Account, Addr, Answer, AuthQuestion, Body, Boxed, Call, Code, Entry, Leg, Listing, Moment,
-    NoMemory, Note, Outcome, Party, PayReq, Policy, PspName, Sent, SentList, SetupLine, TxnId,
-    account_at, listing_at, provider,
+    Account, Addr, AuthQuestion, Body, Boxed, Code, Entry, Leg, Moment, NoMemory, Outcome, Party,
+    PayReq, PspName, Sent, SentList, SetupLine, TxnId, Ver, account_at, copy_extra, copy_note,
+    listing_at, provider,
 };
-use upi_laws::{Decision, Event, LegEnd, Opening, Said};
+use upi_model::{Decision, Event, LegEnd, Opening, Said};
 
 /// The PSP of an address.
 fn psp_of(addr: &Addr) -> PspName
-    ensures { result ≡ provider_of addr.now }
+    ensures { result ≡ Setup.provider addr.now }
 {
     match PspName::read(provider(addr.bytes())) {
         Some(psp) => psp,
@@ -33,7 +36,7 @@ fn psp_of(addr: &Addr) -> PspName
 
 /// The question to the asked PSP.
 fn question(alloc: Global, r: &PayReq) -> Result<Sent, NoMemory>
-    ensures { IfOk result (λ s. s ≡ question_of r.now) }
+    ensures { IfOk result (λ s. s ≡ Sending.question r.now) }
 {
     let question = AuthQuestion {
         txn: r.txn.copy(),
@@ -42,21 +45,14 @@ fn question(alloc: Global, r: &PayReq) -> Result<Sent, NoMemory>
         payee: r.payee.copy(),
         amount: r.amount,
         note: copy_note(&r.note),
+        extra: copy_extra(&r.extra),
     };
     Ok(Sent {
         from: Party::Switch,
         to: Party::Psp(psp_of(asked_addr(r))),
         body: Body::ReqAuth(Boxed::new(alloc, question)?),
+        ver: r.head.ver,
     })
-}
-
-fn copy_note(note: &Option<Note>) -> Option<Note>
-    ensures { result ≡ note.now }
-{
-    match note {
-        None => None,
-        Some(note) => Some(note.copy()),
-    }
 }
 
 fn order_at(
@@ -65,7 +61,7 @@ fn order_at(
     account: &Option<Account>,
     out: &mut Vec<Sent>,
 ) -> Result<(), NoMemory>
-    ensures { OnOk result (out.new.items ≡ out.old.items ++ order_at_of r.now leg account.now) }
+    ensures { OnOk result (out.new.items ≡ out.old.items ++ Sending.order_at r.now leg account.now) }
 {
     match account {
         None => Ok(()),
@@ -79,7 +75,9 @@ fn order_at(
                     amount: r.amount,
                     ac: account.ac.copy(),
                     addr: posted_at(leg, r).copy(),
+                    extra: copy_extra(&r.extra),
                 },
+                ver: r.head.ver,
             })?;
             Ok(())
         }
@@ -88,14 +86,14 @@ fn order_at(
 
 /// Adds the order for a leg.
 fn order(setup: &[SetupLine], r: &PayReq, leg: Leg, out: &mut Vec<Sent>) -> Result<(), NoMemory>
-    ensures { OnOk result (out.new.items ≡ out.old.items ++ order_of setup.now r.now leg) }
+    ensures { OnOk result (out.new.items ≡ out.old.items ++ Sending.order setup.now r.now leg) }
 {
     order_at(r, leg, &account_at(setup, posted_at(leg, r)), out)
 }
 
 /// The confirmation of an outcome to the asked PSP.
 fn confirmation(r: &PayReq, outcome: Outcome) -> Sent
-    ensures { result ≡ confirmation_of r.now outcome }
+    ensures { result ≡ Sending.confirmation r.now outcome }
 {
     Sent {
         from: Party::Switch,
@@ -105,11 +103,12 @@ fn confirmation(r: &PayReq, outcome: Outcome) -> Sent
             kind: r.kind,
             outcome,
         },
+        ver: r.head.ver,
     }
 }
 
 fn confirm(r: &PayReq, outcome: Option<Outcome>, out: &mut Vec<Sent>) -> Result<(), NoMemory>
-    ensures { OnOk result (out.new.items ≡ out.old.items ++ confirm_of r.now outcome) }
+    ensures { OnOk result (out.new.items ≡ out.old.items ++ Sending.confirm r.now outcome) }
 {
     match outcome {
         None => Ok(()),
@@ -122,7 +121,7 @@ fn confirm(r: &PayReq, outcome: Option<Outcome>, out: &mut Vec<Sent>) -> Result<
 
 /// The result of a payment, to the asking PSP.
 fn result_message(r: &PayReq, outcome: Outcome) -> Sent
-    ensures { result ≡ result_of r.now outcome }
+    ensures { result ≡ Sends.result_message r.now outcome }
 {
     Sent {
         from: Party::Switch,
@@ -133,6 +132,7 @@ fn result_message(r: &PayReq, outcome: Outcome) -> Sent
             outcome,
             req_msg: r.head.msg_id.copy(),
         },
+        ver: r.head.ver,
     }
 }
 
@@ -142,7 +142,7 @@ fn outcome_messages(
     outcome: Option<Outcome>,
     out: &mut Vec<Sent>,
 ) -> Result<(), NoMemory>
-    ensures { OnOk result (out.new.items ≡ out.old.items ++ outcome_messages_of r.now outcome) }
+    ensures { OnOk result (out.new.items ≡ out.old.items ++ Sending.outcome_messages r.now outcome) }
 {
     match outcome {
         None => Ok(()),
@@ -155,7 +155,7 @@ fn outcome_messages(
 }
 
 fn new_decision(before: Option<Decision>, now: Option<Decision>) -> Option<Decision>
-    ensures { result ≡ anew_of before now }
+    ensures { result ≡ Sending.anew before now }
 {
     match before {
         Some(_) => None,
@@ -164,7 +164,7 @@ fn new_decision(before: Option<Decision>, now: Option<Decision>) -> Option<Decis
 }
 
 fn new_end(before: Option<LegEnd>, now: Option<LegEnd>) -> Option<LegEnd>
-    ensures { result ≡ anew_of before now }
+    ensures { result ≡ Sending.anew before now }
 {
     match before {
         Some(_) => None,
@@ -173,7 +173,7 @@ fn new_end(before: Option<LegEnd>, now: Option<LegEnd>) -> Option<LegEnd>
 }
 
 fn new_moment(before: Option<Moment>, now: Option<Moment>) -> Option<Moment>
-    ensures { result ≡ anew_of before now }
+    ensures { result ≡ Sending.anew before now }
 {
     match before {
         Some(_) => None,
@@ -181,12 +181,35 @@ fn new_moment(before: Option<Moment>, now: Option<Moment>) -> Option<Moment>
     }
 }
 
-fn on_opening(alloc: Global, opening: &Option<Opening>, out: &mut Vec<Sent>) -> Result<(), NoMemory>
-    ensures { OnOk result (out.new.items ≡ out.old.items ++ sent_on_opening_of opening.now) }
+fn decision_of(row: Option<&Row>) -> Option<Decision>
+    ensures { result ≡ decision_in (option_copied row.entry) }
 {
-    match opening {
-        None => Ok(()),
-        Some(opening) => {
+    match row {
+        None => None,
+        Some(row) => row.decision,
+    }
+}
+
+fn reversal_of(row: Option<&Row>) -> Option<Moment>
+    ensures { result ≡ reversal_in (option_copied row.entry) }
+{
+    match row {
+        None => None,
+        Some(row) => row.reversal,
+    }
+}
+
+fn on_opening(
+    alloc: Global,
+    before: Option<&Row>,
+    opening: &Opening,
+    out: &mut Vec<Sent>,
+) -> Result<(), NoMemory>
+    ensures { OnOk result (out.new.items ≡ out.old.items ++ Sending.sent_on_opening (Sending.anew (opening_in (option_copied before.entry)) (Some opening.now))) }
+{
+    match before {
+        Some(_row) => Ok(()),
+        None => {
             out.push(question(alloc, &opening.terms)?)?;
             Ok(())
         }
@@ -200,7 +223,7 @@ fn on_decision(
     decision: Option<Decision>,
     out: &mut Vec<Sent>,
 ) -> Result<(), NoMemory>
-    ensures { OnOk result (out.new.items ≡ out.old.items ++ sent_on_decision_of setup.now r.now outcome decision) }
+    ensures { OnOk result (out.new.items ≡ out.old.items ++ Sending.sent_on_decision setup.now r.now outcome decision) }
 {
     match &decision {
         None => Ok(()),
@@ -218,7 +241,7 @@ fn on_debit(
     debit: Option<LegEnd>,
     out: &mut Vec<Sent>,
 ) -> Result<(), NoMemory>
-    ensures { OnOk result (out.new.items ≡ out.old.items ++ sent_on_debit_of setup.now r.now outcome debit) }
+    ensures { OnOk result (out.new.items ≡ out.old.items ++ Sending.sent_on_debit setup.now r.now outcome debit) }
 {
     match &debit {
         None => Ok(()),
@@ -236,7 +259,7 @@ fn on_credit(
     credit: Option<LegEnd>,
     out: &mut Vec<Sent>,
 ) -> Result<(), NoMemory>
-    ensures { OnOk result (out.new.items ≡ out.old.items ++ sent_on_credit_of setup.now r.now outcome credit) }
+    ensures { OnOk result (out.new.items ≡ out.old.items ++ Sending.sent_on_credit setup.now r.now outcome credit) }
 {
     match &credit {
         None => Ok(()),
@@ -253,7 +276,7 @@ fn on_reversal(
     reversal: Option<Moment>,
     out: &mut Vec<Sent>,
 ) -> Result<(), NoMemory>
-    ensures { OnOk result (out.new.items ≡ out.old.items ++ sent_on_reversal_of r.now outcome reversal) }
+    ensures { OnOk result (out.new.items ≡ out.old.items ++ Sending.sent_on_reversal r.now outcome reversal) }
 {
     match &reversal {
         None => Ok(()),
@@ -269,7 +292,7 @@ fn again(
     cause: Option<Code>,
     out: &mut Vec<Sent>,
 ) -> Result<(), NoMemory>
-    ensures { OnOk result (out.new.items ≡ out.old.items ++ again_of setup.now r.now outcome cause) }
+    ensures { OnOk result (out.new.items ≡ out.old.items ++ Sending.again setup.now r.now outcome cause) }
 {
     if outcome.is_some() {
         return confirm(r, outcome, out);
@@ -288,7 +311,7 @@ fn again_if(
     due: bool,
     out: &mut Vec<Sent>,
 ) -> Result<(), NoMemory>
-    ensures { OnOk result (out.new.items ≡ out.old.items ++ sent_again_of setup.now r.now outcome cause due) }
+    ensures { OnOk result (out.new.items ≡ out.old.items ++ Sending.sent_again setup.now r.now outcome cause due) }
 {
     if due {
         again(setup, r, outcome, cause, out)
@@ -297,239 +320,136 @@ fn again_if(
     }
 }
 
-/// What an event decides of a transaction.
-#[derive(Drop)]
-struct Steps {
-    decision: Option<Decision>,
-    debit: Option<LegEnd>,
-    credit: Option<LegEnd>,
-    reversal: Option<Moment>,
-}
-
-/// Adds what comes of an opened transaction.
-fn by_places(
+/// Adds what is sent at the places that come between two rows of a transaction.
+fn at_places(
+    alloc: Global,
     setup: &[SetupLine],
-    r: &PayReq,
-    outcome: Option<Outcome>,
-    steps: &Steps,
+    before: Option<&Row>,
+    after: &Row,
     out: &mut Vec<Sent>,
 ) -> Result<(), NoMemory>
-    ensures { OnOk result (out.new.items ≡ out.old.items ++ sent_by_places_of setup.now r.now outcome steps.now.decision steps.now.debit steps.now.credit steps.now.reversal) }
+    ensures { OnOk result (out.new.items ≡ out.old.items ++ Sending.sent_at_places setup.now (row_stands (option_copied before.entry)) (row_stands (Some after.now)) (Some after.now.opening)) }
 {
-    on_decision(setup, r, outcome, steps.decision, out)?;
-    on_debit(setup, r, outcome, steps.debit, out)?;
-    on_credit(setup, r, outcome, steps.credit, out)?;
-    on_reversal(r, outcome, steps.reversal, out)
+    let r = &after.opening.terms;
+    let outcome = after.outcome();
+    let decision = new_decision(decision_of(before), after.decision);
+    let debit = new_end(debit_of(before), after.debit);
+    let credit = new_end(credit_of(before), after.credit);
+    let reversal = new_moment(reversal_of(before), after.reversal);
+    on_opening(alloc, before, &after.opening, out)?;
+    on_decision(setup, r, outcome, decision, out)?;
+    on_debit(setup, r, outcome, debit, out)?;
+    on_credit(setup, r, outcome, credit, out)?;
+    on_reversal(r, outcome, reversal, out)
 }
 
-/// What an event decides of a transaction, had nothing been decided before.
-fn all_steps(setup: &[SetupLine], row: &Row, event: &Event, now: Moment) -> Steps
-    ensures { result ≡ steps_of setup.now row.now event.now now }
-{
-    let txn = &row.opening.terms.txn;
-    let due = due_debit(row.decision);
-    let given = due_credit(row.debit);
-    let cause = cause_from(row.debit, row.credit);
-    Steps {
-        decision: decides(setup, false, &row.opening, event, now),
-        debit: ends(txn, Leg::Debit, false, due, event, now),
-        credit: ends(txn, Leg::Credit, false, given, event, now),
-        reversal: reverses(txn, false, cause, event, now),
-    }
-}
-
-/// The outcome that then stands.
-fn outcome_after(row: &Row, steps: &Steps) -> Option<Outcome>
-    ensures { result ≡ outcome_after_of row.now steps.now }
-{
-    let decision = or_decided(row.decision, steps.decision);
-    let debit = or_ended(row.debit, steps.debit);
-    let credit = or_ended(row.credit, steps.credit);
-    let reversal = or_at(row.reversal, steps.reversal);
-    outcome_from(&row.opening, decision, debit, credit, reversal.is_some())
-}
-
-/// What wasn't decided before.
-fn new_steps(row: &Row, steps: &Steps) -> Steps
-    ensures { result ≡ new_steps_of row.now steps.now }
-{
-    Steps {
-        decision: new_decision(row.decision, steps.decision),
-        debit: new_end(row.debit, steps.debit),
-        credit: new_end(row.credit, steps.credit),
-        reversal: new_moment(row.reversal, steps.reversal),
-    }
-}
-
-/// Adds what an event brings to a transaction.
-fn by_row(
+fn places(
+    alloc: Global,
     setup: &[SetupLine],
-    row: &Row,
-    event: &Event,
-    now: Moment,
+    before: Option<&Row>,
+    after: &Option<Row>,
     out: &mut Vec<Sent>,
 ) -> Result<(), NoMemory>
-    ensures { OnOk result (out.new.items ≡ out.old.items ++ sent_by_row_of setup.now row.now event.now now) }
+    ensures { OnOk result (out.new.items ≡ out.old.items ++ Sending.sent_at_places setup.now (row_stands (option_copied before.entry)) (row_stands after.now) (opening_in after.now)) }
 {
-    let steps = all_steps(setup, row, event, now);
-    let outcome = outcome_after(row, &steps);
-    by_places(
-        setup,
-        &row.opening.terms,
-        outcome,
-        &new_steps(row, &steps),
-        out,
-    )
-}
-
-fn on_event(
-    setup: &[SetupLine],
-    event: &Event,
-    now: Moment,
-    row: Option<&Row>,
-    out: &mut Vec<Sent>,
-) -> Result<(), NoMemory>
-    ensures { OnOk result (out.new.items ≡ out.old.items ++ sent_on_event_in setup.now event.now now (option_copied row.entry)) }
-{
-    match row {
+    match after {
         None => Ok(()),
-        Some(row) => by_row(setup, row, event, now, out),
+        Some(after) => at_places(alloc, setup, before, after, out),
     }
 }
 
-/// Adds what a Late brings to a transaction, and what it sends again.
-fn on_late(
+/// Adds what a Late sends again.
+fn again_due(
     setup: &[SetupLine],
     history: &[Entry],
     now: Moment,
     row: Option<&Row>,
     out: &mut Vec<Sent>,
 ) -> Result<(), NoMemory>
-    ensures { OnOk result (out.new.items ≡ out.old.items ++ sent_on_late_in setup.now (past history.now) now (option_copied row.entry)) }
+    ensures { OnOk result (out.new.items ≡ out.old.items ++ Sending.sent_due setup.now (passed now (due_in (past history.now) (option_copied row.entry))) (row_stands (option_copied row.entry)) (opening_in (option_copied row.entry))) }
 {
     match row {
         None => Ok(()),
-        Some(row) => late_row(setup, history, now, row, out),
-    }
-}
-
-fn late_row(
-    setup: &[SetupLine],
-    history: &[Entry],
-    now: Moment,
-    row: &Row,
-    out: &mut Vec<Sent>,
-) -> Result<(), NoMemory>
-    ensures { OnOk result (out.new.items ≡ out.old.items ++ sent_on_late_in setup.now (past history.now) now (Some row.now)) }
-{
-    let terms = &row.opening.terms;
-    let event = Event::Late(terms.txn.copy());
-    let due = is_due(history, Some(row), now);
-    by_row(setup, row, &event, now, out)?;
-    let cause = cause_from(row.debit, row.credit);
-    again_if(setup, terms, row.outcome(), cause, due, out)
-}
-
-fn bank_answer(
-    bank: &Party,
-    txn: &TxnId,
-    leg: Leg,
-    answer: Option<Answer>,
-    out: &mut Vec<Sent>,
-) -> Result<(), NoMemory>
-    ensures { OnOk result (out.new.items ≡ out.old.items ++ bank_answer_of bank.now txn.now leg answer) }
-{
-    match answer {
-        None => Ok(()),
-        Some(answer) => {
-            out.push(Sent {
-                from: bank.copy(),
-                to: Party::Switch,
-                body: Body::LegAnswer {
-                    txn: txn.copy(),
-                    leg,
-                    answer,
-                },
-            })?;
-            Ok(())
+        Some(row) => {
+            let due = is_due(history, Some(row), now);
+            let cause = cause_from(row.debit, row.credit);
+            again_if(setup, &row.opening.terms, row.outcome(), cause, due, out)
         }
-    }
-}
-
-/// The word of a model PSP.
-fn word(psp: &Party, question: &AuthQuestion, yes: bool) -> Sent
-    ensures { result ≡ word_of psp.now question.now yes }
-{
-    Sent {
-        from: psp.copy(),
-        to: Party::Switch,
-        body: Body::RespAuth {
-            txn: question.txn.copy(),
-            amount: question.amount,
-            yes,
-        },
-    }
-}
-
-fn model_word(
-    psp: &Party,
-    question: &AuthQuestion,
-    policy: Policy,
-    out: &mut Vec<Sent>,
-) -> Result<(), NoMemory>
-    ensures { OnOk result (out.new.items ≡ out.old.items ++ model_word_of psp.now question.now policy) }
-{
-    match policy {
-        Policy::Yes => {
-            out.push(word(psp, question, true))?;
-            Ok(())
-        }
-        Policy::No => {
-            out.push(word(psp, question, false))?;
-            Ok(())
-        }
-        Policy::Ask => Ok(()),
-    }
-}
-
-fn model_answer(
-    psp: &Party,
-    question: &AuthQuestion,
-    listing: &Option<Listing>,
-    out: &mut Vec<Sent>,
-) -> Result<(), NoMemory>
-    ensures { OnOk result (out.new.items ≡ out.old.items ++ model_answer_by_of psp.now question.now listing.now) }
-{
-    match listing {
-        None => Ok(()),
-        Some(listing) => model_word(psp, question, listing.policy, out),
     }
 }
 
 impl Found {
-    ghost use Rattle.upi_replay.specs.Rows.{IsFound};
+    /// The row of a transaction behind an event.
+    fn row_then(&self, setup: &[SetupLine], event: &Event, now: Moment, txn: &TxnId) -> Option<Row>
+        ensures { result ≡ row_then setup.now self.now.rows.items self.now.strays.items self.now.closed event.now now txn.now }
+    {
+        match row_at(&self.rows, txn) {
+            Some(row) => Some(self.advanced(setup, event, now, row)),
+            None => match self.opens_row(setup, event, now) {
+                None => None,
+                Some(row) => {
+                    if row.opening.terms.txn == *txn {
+                        Some(row)
+                    } else {
+                        None
+                    }
+                }
+            },
+        }
+    }
+
+    /// Adds what is sent where an event is a milestone of the transaction.
+    fn at_event(
+        &self,
+        alloc: Global,
+        setup: &[SetupLine],
+        event: &Event,
+        now: Moment,
+        txn: &TxnId,
+        out: &mut Vec<Sent>,
+    ) -> Result<(), NoMemory>
+        ensures { let after = row_then setup.now self.now.rows.items self.now.strays.items self.now.closed event.now now txn.now in
+            OnOk result (out.new.items ≡ out.old.items ++ Sending.sent_at_places setup.now (look self.now.rows.items txn.now) (row_stands after) (opening_in after)) }
+    {
+        let after = self.row_then(setup, event, now, txn);
+        places(alloc, setup, row_at(&self.rows, txn), &after, out)
+    }
 
     fn on_said(
         &self,
         alloc: Global,
         setup: &[SetupLine],
-        psp: &PspName,
-        what: &Said,
         event: &Event,
         now: Moment,
+        what: &Said,
         out: &mut Vec<Sent>,
     ) -> Result<(), NoMemory>
-        ensures { OnOk result (out.new.items ≡ out.old.items ++ sent_on_said_in setup.now self.now.rows.items psp.now what.now event.now now) }
+        ensures { OnOk result (out.new.items ≡ out.old.items ++ Sending.sent_on_said setup.now (look self.now.rows.items (txn_said what.now)) (row_stands (row_then setup.now self.now.rows.items self.now.strays.items self.now.closed event.now now (txn_said what.now))) what.now) }
     {
         match what {
-            Said::Pay(_) => {
-                on_opening(alloc, &opens_said(setup, &self.rows, now, psp, what), out)
-            }
-            Said::Auth(word) => on_event(setup, event, now, row_at(&self.rows, &word.txn), out),
+            Said::Pay(r) => self.at_event(alloc, setup, event, now, &r.txn, out),
+            Said::Auth(word) => self.at_event(alloc, setup, event, now, &word.txn, out),
             Said::Check(_) => Ok(()),
             Said::Confirmed(_) => Ok(()),
             Said::Foreign => Ok(()),
         }
+    }
+
+    fn on_late(
+        &self,
+        alloc: Global,
+        setup: &[SetupLine],
+        history: &[Entry],
+        event: &Event,
+        now: Moment,
+        txn: &TxnId,
+        out: &mut Vec<Sent>,
+    ) -> Result<(), NoMemory>
+        ensures { let after = row_then setup.now self.now.rows.items self.now.strays.items self.now.closed event.now now txn.now in
+            OnOk result (out.new.items ≡ out.old.items ++ (Sending.sent_at_places setup.now (look self.now.rows.items txn.now) (row_stands after) (opening_in after) ++ Sending.sent_due setup.now (passed now (due_in (past history.now) (row_at_of self.now.rows.items txn.now))) (look self.now.rows.items txn.now) (look self.now.rows.items txn.now).opening)) }
+    {
+        self.at_event(alloc, setup, event, now, txn, out)?;
+        again_due(setup, history, now, row_at(&self.rows, txn), out)
     }
 
     /// Adds what the switch sends on an event, before the close.
@@ -542,16 +462,16 @@ impl Found {
         now: Moment,
         out: &mut Vec<Sent>,
     ) -> Result<(), NoMemory>
-        ensures { OnOk result (out.new.items ≡ out.old.items ++ sent_on_in setup.now self.now.rows.items (past history.now) event.now now) }
+        ensures { OnOk result (out.new.items ≡ out.old.items ++ Sending.sent_between setup.now (is_due_in (past history.now) self.now.rows.items event.now now) (look self.now.rows.items (txn_of event.now)) (row_stands (row_then setup.now self.now.rows.items self.now.strays.items self.now.closed event.now now (txn_of event.now))) event.now) }
     {
         match event {
-            Event::Heard { psp, what } => self.on_said(alloc, setup, psp, what, event, now, out),
+            Event::Heard { psp: _psp, what } => self.on_said(alloc, setup, event, now, what, out),
             Event::Answered {
                 txn,
                 leg: _leg,
                 answer: _answer,
-            } => on_event(setup, event, now, row_at(&self.rows, txn), out),
-            Event::Late(txn) => on_late(setup, history, now, row_at(&self.rows, txn), out),
+            } => self.at_event(alloc, setup, event, now, txn, out),
+            Event::Late(txn) => self.on_late(alloc, setup, history, event, now, txn, out),
             _ => Ok(()),
         }
     }
@@ -560,16 +480,17 @@ impl Found {
         &self,
         setup: &[SetupLine],
         to: &Party,
+        ver: Ver,
         body: &Body,
         out: &mut Vec<Sent>,
     ) -> Result<(), NoMemory>
-        ensures { OnOk result (out.new.items ≡ out.old.items ++ receiver_answer_in setup.now self.now.rows.items to.now body.now) }
+        ensures { OnOk result (out.new.items ≡ out.old.items ++ Sending.answer_to setup.now (orders_in setup.now self.now.rows.items) to.now ver body.now) }
     {
         match body {
             Body::ReqAuth(question) => {
                 let question = question.get();
                 let addr = side(question.kind, &question.payee, &question.payer);
-                model_answer(to, question, &listing_at(setup, addr), out)
+                model_answer(to, ver, question, &listing_at(setup, addr), out)
             }
             Body::Confirm {
                 txn,
@@ -580,6 +501,7 @@ impl Found {
                     from: to.copy(),
                     to: Party::Switch,
                     body: Body::Confirmed { txn: txn.copy() },
+                    ver,
                 })?;
                 Ok(())
             }
@@ -589,15 +511,11 @@ impl Found {
                 amount: _amount,
                 ac: _ac,
                 addr: _addr,
+                extra: _extra,
             } => {
                 let row = row_at(&self.rows, txn);
-                bank_answer(
-                    to,
-                    txn,
-                    *leg,
-                    order_answer(setup, &self.rows, row, *leg),
-                    out,
-                )
+                let answer = order_answer(setup, &self.rows, row, *leg);
+                bank_answer(to, ver, txn, *leg, answer, out)
             }
             _ => Ok(()),
         }
@@ -607,52 +525,36 @@ impl Found {
     fn receiver_answers(
         &self,
         setup: &[SetupLine],
-        history: &[Entry],
-        call: &Call,
-        out: &mut Vec<Sent>,
-    ) -> Result<(), NoMemory>
-        ensures { OnOk result (out.new.items ≡ out.old.items ++ receiver_answers_in setup.now self.now.rows.items (past history.now) call.now) }
-    {
-        match call {
-            Call::Deliver(n) => self.answered_message(setup, message_of(history, *n), out),
-            _ => Ok(()),
-        }
-    }
-
-    fn answered_message(
-        &self,
-        setup: &[SetupLine],
         message: Option<&Sent>,
         out: &mut Vec<Sent>,
     ) -> Result<(), NoMemory>
-        ensures { OnOk result (out.new.items ≡ out.old.items ++ answered_message_in setup.now self.now.rows.items (option_copied message.entry)) }
+        ensures { OnOk result (out.new.items ≡ out.old.items ++ Sending.answers_to setup.now (orders_in setup.now self.now.rows.items) (option_copied message.entry)) }
     {
         match message {
             None => Ok(()),
-            Some(sent) => self.receiver_answer(setup, &sent.to, &sent.body, out),
+            Some(sent) => self.receiver_answer(setup, &sent.to, sent.ver, &sent.body, out),
         }
     }
 
-    /// The messages that a call at a moment sends, behind the history of which this was found. It
-    /// fails only for want of memory.
-    pub fn sends(
+    /// The messages that an event sends, which delivers this message if it delivers one. It fails
+    /// only for want of memory.
+    pub(crate) fn sends(
         &self,
         alloc: Global,
         setup: &[SetupLine],
         history: &[Entry],
-        call: &Call,
+        message: Option<&Sent>,
+        event: &Event,
         now: Moment,
     ) -> Result<SentList, NoMemory>
-        requires { IsFound setup.now (past history.now) self.now }
-        ensures { IfOk result (λ s. s ≡ sent_by setup.now (past history.now) call.now now) }
+        ensures { IfOk result (λ s. s ≡ Sending.sends_by setup.now (orders_in setup.now self.now.rows.items) (is_due_in (past history.now) self.now.rows.items event.now now) (option_copied message.entry) self.now.closed (look self.now.rows.items (txn_of event.now)) (row_stands (row_then setup.now self.now.rows.items self.now.strays.items self.now.closed event.now now (txn_of event.now))) event.now) }
     {
         if self.closed {
             return Ok(SentList::new(alloc));
         }
         let mut out = Vec::new(alloc);
-        let event = event_of(history, call);
-        self.switch_sends(alloc, setup, history, &event, now, &mut out)?;
-        self.receiver_answers(setup, history, call, &mut out)?;
+        self.switch_sends(alloc, setup, history, event, now, &mut out)?;
+        self.receiver_answers(setup, message, &mut out)?;
         Ok(SentList::of(out))
     }
 }

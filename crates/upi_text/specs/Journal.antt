@@ -10,13 +10,14 @@ use Rattle.upi_base.specs.declared.sent.Body.TheVariants as body
 use Rattle.upi_base.specs.declared.sent.Sent.{Sent}
 use Rattle.upi_base.specs.Money.{paise_text}
 use Rattle.upi_base.specs.Shards.{account_text}
+use Rattle.upi_model.specs.History.{sent_count}
 use Rattle.upi_msg.specs.Tree.{message_text}
 use Rattle.upi_text.specs.Pieces.{spaced, leg_text, fault_text, yes_text, answer_text, outcome_text, reply_text, party_text}
 
 abbrev pub body_text : Body → List ℕ
 body_text (body.ReqAuth q) = codes "REQAUTH" ++ spaced q.txn ++ spaced (paise_text q.amount)
 body_text (body.RespAuth txn amount is_yes) = codes "RESPAUTH" ++ spaced txn ++ spaced (paise_text amount) ++ spaced (yes_text is_yes)
-body_text (body.Order txn leg amount ac addr) = leg_text leg ++ spaced txn ++ spaced (paise_text amount) ++ spaced (account_text ac)
+body_text (body.Order txn leg amount ac addr extra) = leg_text leg ++ spaced txn ++ spaced (paise_text amount) ++ spaced (account_text ac)
 body_text (body.LegAnswer txn leg answer) = codes "ANSWER" ++ spaced txn ++ spaced (leg_text leg) ++ spaced (answer_text answer)
 body_text (body.Result txn kind outcome req_msg) = codes "RESPPAY" ++ spaced txn ++ spaced (outcome_text outcome)
 body_text (body.Confirm txn kind outcome) = codes "CONFIRM" ++ spaced txn ++ spaced (outcome_text outcome)
@@ -50,11 +51,6 @@ entry_line place e = codes "E" ++ spaced (decimal place) ++ spaced (decimal e.ca
 -- the lines of an entry at a place, whose messages are numbered from `first`
 abbrev pub entry_lines : Entry → ℕ → ℕ → List ℕ
 entry_lines e place first = entry_line place e ++ sent_lines first e.sent
-
--- how many messages a history sent
-abbrev pub sent_count : List Entry → ℕ
-sent_count [] = 0
-sent_count (e ∷ before) = sent_count before + length e.sent
 
 -- the lines of a history, the latest entry first: places and messages are counted from 1
 abbrev pub history_text : List Entry → List ℕ

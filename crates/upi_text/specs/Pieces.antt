@@ -3,9 +3,6 @@ use Rattle.std.specs.Prelude.{ℕ, Bool, if◌then◌else◌, List, ◌∷◌, �
 use Rattle.upi_base.specs.declared.code.Answer.{Answer}
 use Rattle.upi_base.specs.declared.code.Answer.TheVariants as answer
 use Rattle.upi_base.specs.declared.code.Code.{Code}
-use Rattle.upi_base.specs.declared.code.Code.TheVariants as code
-use Rattle.upi_base.specs.declared.code.Leg.{Leg}
-use Rattle.upi_base.specs.declared.code.Leg.TheVariants as leg
 use Rattle.upi_base.specs.declared.code.Outcome.{Outcome}
 use Rattle.upi_base.specs.declared.code.Outcome.TheVariants as outcome
 use Rattle.upi_base.specs.declared.code.Policy.{Policy}
@@ -16,6 +13,7 @@ use Rattle.upi_base.specs.declared.message.MsgWhy.{MsgWhy}
 use Rattle.upi_base.specs.declared.message.MsgWhy.TheVariants as fault
 use Rattle.upi_base.specs.declared.sent.Party.{Party}
 use Rattle.upi_base.specs.declared.sent.Party.TheVariants as party
+pub use Rattle.upi_base.specs.Words.{leg_text, code_text}
 
 -- a space, and a word
 abbrev pub spaced : List ℕ → List ℕ
@@ -25,35 +23,6 @@ abbrev pub policy_text : Policy → List ℕ
 policy_text policy.Yes = codes "YES"
 policy_text policy.No = codes "NO"
 policy_text policy.Ask = codes "ASK"
-
-abbrev pub leg_text : Leg → List ℕ
-leg_text leg.Debit = codes "DEBIT"
-leg_text leg.Credit = codes "CREDIT"
-leg_text leg.Reversal = codes "REVERSAL"
-
-abbrev pub code_text : Code → List ℕ
-code_text code.Format = codes "FORMAT"
-code_text code.Closed = codes "CLOSED"
-code_text code.Dup = codes "DUP"
-code_text code.NotYours = codes "NOTYOURS"
-code_text code.Addr = codes "ADDR"
-code_text code.Account = codes "ACCOUNT"
-code_text code.Same = codes "SAME"
-code_text code.Amt = codes "AMT"
-code_text code.Full = codes "FULL"
-code_text code.NoTxn = codes "NOTXN"
-code_text code.Early = codes "EARLY"
-code_text code.Expired = codes "EXPIRED"
-code_text code.AuthLate = codes "AUTHLATE"
-code_text code.Declined = codes "DECLINED"
-code_text code.DebitLate = codes "DEBITLATE"
-code_text code.CreditLate = codes "CREDITLATE"
-code_text code.Funds = codes "FUNDS"
-code_text code.NoDebit = codes "NODEBIT"
-code_text code.NoCredit = codes "NOCREDIT"
-code_text code.Cap = codes "CAP"
-code_text code.Reversed = codes "REVERSED"
-code_text code.Nothing = codes "NOTHING"
 
 -- what is wrong with a message that can't be read
 abbrev pub fault_text : MsgWhy → List ℕ

@@ -1,5 +1,5 @@
 -- The lines of a setup, read.
-use Rattle.std.specs.Prelude.{◌≡◌, ℕ, ◌==◌, nat_le, Bool, true, false, not, ◌&&◌, if◌then◌else◌, List, [], ◌∷◌, ◌++◌, length, codes, Option, Some, None, Result, Ok, Err}
+use Rattle.std.specs.Prelude.{◌≡◌, ℕ, ◌==◌, nat_le, Bool, true, false, not, ◌&&◌, if◌then◌else◌, List, [], ◌∷◌, ◌++◌, length, codes, Option, Some, None, is_some, Result, Ok, Err}
 use Rattle.std.specs.Str.{bytes_eq, is_utf8}
 use Rattle.upi_base.specs.declared.code.Policy.{Policy}
 use Rattle.upi_base.specs.declared.code.Policy.TheVariants as policy
@@ -11,7 +11,7 @@ use Rattle.upi_base.specs.Lists.{when}
 use Rattle.upi_base.specs.Texts.{is_bank_code, is_psp_name, is_addr}
 use Rattle.upi_base.specs.Money.{paise_of}
 use Rattle.upi_base.specs.Time.{moment_of}
-use Rattle.upi_base.specs.Setup.{setup_fault}
+use Rattle.upi_base.specs.Setup.{setup_fault, is_setup}
 use Rattle.upi_base.specs.Accounts.{account_of}
 use Rattle.upi_text.specs.Words.{is_skipped, words, word_at}
 use Rattle.upi_text.specs.Refusals.{◌>>=◌, refusal, not_utf8, no_command, other_fields, valued}
@@ -22,10 +22,11 @@ use Rattle.upi_text.specs.declared.setup.Flags.{Flags}
 use Rattle.upi_text.specs.declared.setup.SetupRead.{SetupRead}
 use Rattle.upi_text.specs.declared.setup.SetupRead.TheVariants as read
 
--- the lines of a setup that were read: the moment of START, and the lines behind it
+-- the lines of a setup that were read: the moment of START, the lines behind it, and whether OPEN was read
 pub record SetupState : Type 0 where
   pub start : Option ℕ
   pub lines : List SetupLine
+  pub is_open : Bool
 
 -- `BANK code`
 unfoldable pub bank_line : List (List ℕ) → Result SetupLine Refusal
@@ -158,9 +159,24 @@ MayFollow lines (read.Start start) = Unit {0}
 MayFollow lines (read.Line l) = setup_fault lines l ≡ None
 MayFollow lines read.Open = Unit {0}
 
+-- OPEN is read only behind START
+abbrev pub IsStarted : Option ℕ → SetupRead → Type 0
+IsStarted (Some start) r = Unit {0}
+IsStarted None read.Open = ⊥
+IsStarted None _ = Unit {0}
+
+-- nothing was read
+abbrev pub unread : SetupState
+unread = record { start = None; lines = []; is_open = false }
+
 -- the lines that were read, with one more
 abbrev pub state_after : SetupState → SetupRead → SetupState
 state_after S read.Skipped = S
 state_after S (read.Start start) = record S { start = Some start }
 state_after S (read.Line l) = record S { lines = S.lines ++ l ∷ [] }
-state_after S read.Open = S
+state_after S read.Open = record S { is_open = true }
+
+-- what holds of all that was read: the setup accepts its lines, and OPEN stands behind START
+pub record IsRead (start : Option ℕ) (lines : List SetupLine) (is_open : Bool) : Type 0 where
+  pub accepted : is_setup lines ≡ true
+  pub started : is_open ≡ true → is_some start ≡ true

@@ -4,11 +4,11 @@ ghost use Rattle.upi_text.specs.Pieces.{spaced};
 ghost use Rattle.upi_text.specs.Journal.{body_text, sent_line as sent_line_of, sent_lines, heard_text, call_text, entry_line as entry_line_of, entry_lines};
 
 use crate::pieces::{
-    fault_word, leg_word, party_word, push, push_account, push_answer, push_number, push_outcome,
-    push_reply, push_sum, push_word, yes_word,
+    fault_word, party_word, push, push_account, push_answer, push_number, push_outcome, push_reply,
+    push_sum, push_word, yes_word,
 };
 use std::alloc::Global;
-use upi_base::{Body, Call, Entry, Input, NoMemory, PspName, Sent, TxnId};
+use upi_base::{Body, Call, Entry, Input, NoMemory, PspName, Sent, TxnId, leg_word};
 
 // Appends a space and what a message says.
 fn push_body(body: &Body, out: &mut Vec<u8>) -> Result<(), NoMemory>
@@ -33,6 +33,7 @@ fn push_body(body: &Body, out: &mut Vec<u8>) -> Result<(), NoMemory>
             amount,
             ac,
             addr: _addr,
+            extra: _extra,
         } => {
             push_word(leg_word(*leg), out)?;
             push_word(txn.bytes(), out)?;

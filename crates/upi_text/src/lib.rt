@@ -9,10 +9,9 @@ pub mod setup_text;
 pub mod words;
 
 pub use journal::entry_text;
-pub use pieces::code_word;
 pub use refusal::Refusal;
 pub use setup::SetupRead;
-pub use setup_text::SetupText;
+pub use setup_text::{SetupStep, SetupText};
 pub use words::{from_word, is_skipped, number, word, word_count};
 
 #[cfg(test)]

@@ -4,10 +4,10 @@
 ghost use Rattle.std.specs.Prelude.{◌≡◌, ◌++◌, ◌∷◌, OnOk, decimal};
 ghost use Rattle.upi_base.specs.Money.{paise_text};
 ghost use Rattle.upi_base.specs.Shards.{account_text};
-ghost use Rattle.upi_text.specs.Pieces.{spaced, policy_text, leg_text, code_text, fault_text, yes_text, answer_text, outcome_text, ack_text, pending_text, reply_text, party_text};
+ghost use Rattle.upi_text.specs.Pieces.{spaced, policy_text, fault_text, yes_text, answer_text, outcome_text, ack_text, pending_text, reply_text, party_text};
 
 use upi_base::{
-    AccountRef, Answer, Code, Leg, MsgWhy, NoMemory, Outcome, Paise, Party, Policy, Reply,
+    AccountRef, Answer, Code, MsgWhy, NoMemory, Outcome, Paise, Party, Policy, Reply, code_word,
     write_account, write_number,
 };
 
@@ -59,47 +59,6 @@ pub(crate) fn policy_word(policy: Policy) -> &'static [u8]
         Policy::Yes => b"YES",
         Policy::No => b"NO",
         Policy::Ask => b"ASK",
-    }
-}
-
-/// How a leg is written.
-pub(crate) fn leg_word(leg: Leg) -> &'static [u8]
-    ensures { result.now ≡ leg_text leg }
-{
-    match leg {
-        Leg::Debit => b"DEBIT",
-        Leg::Credit => b"CREDIT",
-        Leg::Reversal => b"REVERSAL",
-    }
-}
-
-/// How a code is written.
-pub fn code_word(code: Code) -> &'static [u8]
-    ensures { result.now ≡ code_text code }
-{
-    match code {
-        Code::Format => b"FORMAT",
-        Code::Closed => b"CLOSED",
-        Code::Dup => b"DUP",
-        Code::NotYours => b"NOTYOURS",
-        Code::Addr => b"ADDR",
-        Code::Account => b"ACCOUNT",
-        Code::Same => b"SAME",
-        Code::Amt => b"AMT",
-        Code::Full => b"FULL",
-        Code::NoTxn => b"NOTXN",
-        Code::Early => b"EARLY",
-        Code::Expired => b"EXPIRED",
-        Code::AuthLate => b"AUTHLATE",
-        Code::Declined => b"DECLINED",
-        Code::DebitLate => b"DEBITLATE",
-        Code::CreditLate => b"CREDITLATE",
-        Code::Funds => b"FUNDS",
-        Code::NoDebit => b"NODEBIT",
-        Code::NoCredit => b"NOCREDIT",
-        Code::Cap => b"CAP",
-        Code::Reversed => b"REVERSED",
-        Code::Nothing => b"NOTHING",
     }
 }
 

@@ -2,7 +2,7 @@
 ghost use Rattle.std.specs.Prelude.{◌≡◌};
 ghost use Rattle.upi_text.specs.Refusals.{not_utf8, no_command, other_fields, refusal};
 
-use upi_base::Why;
+use upi_base::{EngineFault, Why};
 
 /// Why a line is refused, and at which word: counted from 1, or 0 for the whole line.
 #[derive(Clone, Copy, Debug, PartialEq, Eq)]
@@ -49,6 +49,19 @@ impl Refusal {
         Refusal {
             field,
             why: Why::Value,
+        }
+    }
+}
+
+impl From<Refusal> for EngineFault {
+    ghost use Rattle.upi_base.specs.declared.fault.EngineFault.TheVariants as fault;
+
+    ghost from_gives = { λ r e. e ≡ fault.Bad r.field r.why };
+
+    fn from(refusal: Refusal) -> EngineFault {
+        EngineFault::Bad {
+            field: refusal.field,
+            why: refusal.why,
         }
     }
 }

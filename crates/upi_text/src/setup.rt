@@ -4,7 +4,7 @@ ghost use Rattle.std.specs.Str.{is_utf8, bytes_eq};
 ghost use Rattle.upi_base.specs.Lists.{when};
 ghost use Rattle.upi_base.specs.Texts.{is_bank_code, is_psp_name, is_addr};
 ghost use Rattle.upi_text.specs.Words.{words};
-ghost use Rattle.upi_text.specs.Setup.{bank_line, psp_line, flag_of, flags_of, account_line, policy_of, address_line, open_line, start_line, field_of, accepted, command_of, later_line, part_line, MayFollow};
+ghost use Rattle.upi_text.specs.Setup.{bank_line, psp_line, flag_of, flags_of, account_line, policy_of, address_line, open_line, start_line, field_of, accepted, command_of, later_line, part_line, MayFollow, IsStarted};
 
 use crate::refusal::Refusal;
 use crate::words::{word, word_count};
@@ -232,6 +232,7 @@ fn open_line(line: &[u8]) -> Result<SetupRead, Refusal>
 fn start_line(line: &[u8]) -> Result<SetupRead, Refusal>
     ensures read { result ≡ start_line (words line.now) }
     ensures follows { (lines : List SetupLine) → IfOk result (λ r. MayFollow lines r) }
+    ensures first { IfOk result (λ r. IsStarted None r) }
 {
     if !is(word(line, 0), b"START") {
         return Err(Refusal::no_command());
@@ -315,6 +316,7 @@ pub(crate) fn part_line(
 ) -> Result<SetupRead, Refusal>
     ensures read { result ≡ part_line start lines.now (words line.now) }
     ensures follows { IfOk result (λ r. MayFollow lines.now r) }
+    ensures started { IfOk result (λ r. IsStarted start r) }
 {
     match start {
         None => start_line(line),

@@ -1,6 +1,6 @@
 //! The setup that lines of a script make, with the text that is written for them.
 ghost use Rattle.std.specs.Prelude.{◌≡◌, ◌++◌, OnOk};
-ghost use Rattle.upi_text.specs.SetupText.{flags_text, line_text, start_text, setup_text_of};
+ghost use Rattle.upi_text.specs.SetupText.{flags_text, line_text, start_text, setup_text_of, step_of};
 
 use crate::pieces::{policy_word, push, push_account, push_sum, push_word};
 use crate::refusal::Refusal;
@@ -8,39 +8,53 @@ use crate::setup::{SetupRead, is_utf8, part_line};
 use crate::words::is_skipped;
 use std::alloc::Global;
 use std::marker::Model;
-use upi_base::{Moment, NoMemory, Setup, SetupLine, SetupLines};
+use upi_base::{EngineFault, Moment, NoMemory, Setup, SetupLine, SetupLines};
 
-/// The lines of a setup that were read: the moment of START, and the lines behind it. Each method
-/// takes one line without its line feed, and the lines up to and with OPEN.
+/// What a line of the setup did.
+#[derive(Clone, Copy, Debug, PartialEq, Eq)]
+pub enum SetupStep {
+    /// More lines are to come.
+    More,
+    /// The line was OPEN: the setup has ended.
+    Opened,
+}
+
+/// A setup that is read line by line. Contracts see the moment of START, the lines behind it, and
+/// whether OPEN was read.
 #[derive(Drop)]
 pub struct SetupText {
     alloc: Global,
     start: Option<Moment>,
     lines: SetupLines,
+    is_open: bool,
 }
 
 impl Model for SetupText {
-    ghost use Rattle.upi_text.specs.Setup.{SetupState};
+    ghost use Rattle.upi_text.specs.Setup.{SetupState, IsRead};
 
     ghost Value = { SetupState };
 
-    ghost view = { λ s. record { start = s.start; lines = s.lines } };
+    ghost view = { λ s. record { start = s.start; lines = s.lines; is_open = s.is_open } };
+
+    ghost invariant = { λ s. IsRead s.start s.lines s.is_open };
 }
 
 impl SetupText {
-    ghost use Rattle.std.specs.Prelude.{◌≡◌, ◌++◌, [], None, IfOk, OnOk, OnErr, true};
+    ghost use Rattle.std.specs.Prelude.{◌≡◌, ◌++◌, Some, IfOk, OnOk, OnErr, true, false};
     ghost use Rattle.upi_base.specs.Setup.{is_setup};
-    ghost use Rattle.upi_text.specs.Setup.{setup_read, state_after};
-    ghost use Rattle.upi_text.specs.SetupText.{setup_text_of};
+    ghost use Rattle.upi_text.specs.Setup.{unread, setup_read, state_after, MayFollow, IsStarted};
+    ghost use Rattle.upi_text.specs.SetupText.{setup_text_of, SetupAnswer};
 
     /// No lines yet. `alloc` serves the lines that are kept.
+    #[tactic(auto, using(crate::proofs::Kept::nothing_read))]
     pub fn new(alloc: Global) -> SetupText
-        ensures { result ≡ record { start = None; lines = [] } }
+        ensures { result ≡ unread }
     {
         SetupText {
             alloc,
             start: None,
             lines: SetupLines::new(alloc),
+            is_open: false,
         }
     }
 
@@ -53,60 +67,82 @@ impl SetupText {
 
     /// The lines behind START, in order.
     pub fn lines(&self) -> &[SetupLine]
-        ensures { result.now ≡ self.now.lines }
+        ensures lines { result.now ≡ self.now.lines }
+        ensures accepted { is_setup self.now.lines ≡ true }
     {
         self.lines.items()
     }
 
-    /// The setup that starts at a moment, with the lines that were read.
-    pub fn into_setup(self, start: Moment) -> Setup
-        ensures { result ≡ record { start = start; lines = self.lines } }
+    /// Whether OPEN was read.
+    pub fn is_open(&self) -> bool
+        ensures { result ≡ self.now.is_open }
+    {
+        self.is_open
+    }
+
+    /// The setup that was read. Condition: OPEN was read.
+    pub fn into_setup(self) -> Setup
+        requires { self.is_open ≡ true }
+        ensures read { self ≡ record { start = Some result.start; lines = result.lines; is_open = true } }
+        ensures accepted { is_setup result.lines ≡ true }
     {
         Setup {
-            start,
+            start: self.start.unwrap(),
             lines: self.lines,
         }
     }
 
-    /// What a line says behind those that were taken, or the first reason for which it is refused:
-    /// that it isn't UTF-8, its first word, the number of its words, the first word outside its
-    /// grammar, and what the setup says of it. It takes no memory.
-    #[tactic(auto, using(crate::proofs::Kept::kept))]
-    pub fn read(&self, line: &[u8]) -> Result<SetupRead, Refusal>
+    // What a line says behind those that were taken, or the first reason for which it is refused.
+    fn read(&self, line: &[u8]) -> Result<SetupRead, Refusal>
         ensures read { result ≡ setup_read self.now line.now }
-        // The setup that it makes of a setup is one.
-        ensures kept { IfOk result (λ r. is_setup self.now.lines ≡ true → is_setup (state_after self.now r).lines ≡ true) }
+        ensures follows { IfOk result (λ r. MayFollow self.now.lines r) }
+        ensures started { IfOk result (λ r. IsStarted self.now.start r) }
+        ensures accepted { is_setup self.now.lines ≡ true }
     {
+        let start = self.start;
         if is_skipped(line) {
             return Ok(SetupRead::Skipped);
         }
         if !is_utf8(line) {
             return Err(Refusal::not_utf8());
         }
-        part_line(self.start, self.lines.items(), line)
+        part_line(start, self.lines.items(), line)
     }
 
     // Keeps what a line says.
+    #[tactic(auto, using(crate::proofs::Kept::read_start, crate::proofs::Kept::read_open))]
     fn note(&mut self, read: SetupRead) -> Result<(), NoMemory>
+        requires follows { MayFollow self.old.lines read }
+        requires started { IsStarted self.old.start read }
         ensures ok { OnOk result (self.new ≡ state_after self.old read) }
         ensures err { OnErr result (self.new ≡ self.old) }
+        ensures accepted { is_setup self.new.lines ≡ true }
     {
+        let _start = self.start;
         match read {
-            SetupRead::Skipped | SetupRead::Open => Ok(()),
+            SetupRead::Skipped => Ok(()),
             SetupRead::Start(start) => {
                 self.start = Some(start);
                 Ok(())
             }
-            SetupRead::Line(line) => self.lines.push(line),
+            SetupRead::Line(line) => {
+                self.lines.push(line)?;
+                Ok(())
+            }
+            SetupRead::Open => {
+                self.is_open = true;
+                Ok(())
+            }
         }
     }
 
-    /// Keeps what a line says, and appends its one form: START at `+05:30`, sums with two
-    /// decimals, a line feed at the end. Nothing is appended for a line that is passed over. At
-    /// want of memory nothing changes.
-    pub fn take(&mut self, read: SetupRead, out: &mut Vec<u8>) -> Result<(), NoMemory>
+    // Keeps what a line says, and appends its one form. At want of memory nothing changes.
+    fn take(&mut self, read: SetupRead, out: &mut Vec<u8>) -> Result<(), NoMemory>
+        requires follows { MayFollow self.old.lines read }
+        requires started { IsStarted self.old.start read }
         ensures ok { OnOk result ((self.new ≡ state_after self.old read) × (out.new.items ≡ out.old.items ++ setup_text_of read)) }
         ensures err { OnErr result ((self.new ≡ self.old) × (out.new.items ≡ out.old.items)) }
+        ensures accepted { is_setup self.new.lines ≡ true }
     {
         let mut text = Vec::new(self.alloc);
         push_read(&read, &mut text)?;
@@ -114,6 +150,34 @@ impl SetupText {
         self.note(read)?;
         out.extend_from_slice(&text)?;
         Ok(())
+    }
+
+    /// Reads a line, which comes without its line end, and appends its one form: START at
+    /// `+05:30`, sums with two decimals, a line feed at the end; nothing for a line that is passed
+    /// over. Condition: OPEN wasn't read.
+    ///
+    /// A line outside the grammar is `Bad` with the first reason: that it isn't UTF-8, its first
+    /// word, the number of its words, the first word outside its grammar, and what the setup says
+    /// of it. A refusal changes nothing, and want of memory neither.
+    pub fn line(&mut self, line: &[u8], out: &mut Vec<u8>) -> Result<SetupStep, EngineFault>
+        requires { self.old.is_open ≡ false }
+        ensures answer { SetupAnswer self.old line.now out.old.items out.new.items self.new result }
+        ensures accepted { is_setup self.new.lines ≡ true }
+    {
+        let read = self.read(line)?;
+        let step = step_of(&read);
+        self.take(read, out)?;
+        Ok(step)
+    }
+}
+
+// Whether the line is OPEN, or more is to come.
+fn step_of(read: &SetupRead) -> SetupStep
+    ensures { result ≡ step_of read.now }
+{
+    match read {
+        SetupRead::Open => SetupStep::Opened,
+        SetupRead::Skipped | SetupRead::Start(_) | SetupRead::Line(_) => SetupStep::More,
     }
 }
 

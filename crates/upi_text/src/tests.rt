@@ -2,21 +2,28 @@ use super::*;
 use std::alloc::Global;
 use std::test::Fail;
 use upi_base::{
-    AccountRef, Addr, Answer, AuthQuestion, BadMessage, BankCode, Body, Boxed, Call, Code, Entry,
-    Head, Input, Kind, Leg, Message, Moment, MsgId, MsgWhy, NoMemory, OrgId, Outcome, Paise, Party,
-    PathText, PayReq, PspName, Reply, Sent, SentList, TxnId, Why,
+    AccountRef, Addr, Answer, AuthQuestion, BadMessage, BankCode, Body, Boxed, Call, Code,
+    EngineFault, Entry, Head, Input, Kind, Leg, Message, Moment, MsgId, MsgWhy, NoMemory, OrgId,
+    Outcome, Paise, Party, PathText, PayReq, PspName, Reply, Sent, SentList, TxnId, Ver, Why,
 };
 
 const SETUP: &[u8] =
     b"START 2024-01-01T00:00:00Z\nBANK AAAA\nPSP alpha\nACCOUNT AAAA/1 100\nADDR ann@alpha AAAA/1 YES";
+
+// What a line does before OPEN.
+fn take(setup: &mut SetupText, line: &[u8], out: &mut Vec<u8>) -> Result<SetupStep, EngineFault> {
+    if setup.is_open() {
+        return Err(EngineFault::NoMemory);
+    }
+    setup.line(line, out)
+}
 
 // The state behind lines, and what is written for them.
 fn read_all(alloc: Global, lines: &[u8]) -> Result<(SetupText, Vec<u8>), Fail> {
     let mut setup = SetupText::new(alloc);
     let mut out = Vec::new(alloc);
     for line in lines.split(|c| *c == b'\n') {
-        let read = setup.read(line)?;
-        setup.take(read, &mut out)?;
+        take(&mut setup, line, &mut out)?;
     }
     Ok((setup, out))
 }
@@ -83,16 +90,20 @@ fn the_first_reason_refuses(rt: HostRuntime) -> Result<(), Fail> {
         (b"ADDR bob@alpha BBBB/1 YES".as_slice(), 3, Why::NoAccount),
         (b"OPEN now".as_slice(), 0, Why::Fields),
     ];
-    let (setup, _) = read_all(rt.alloc(), SETUP)?;
+    let (mut setup, mut out) = read_all(rt.alloc(), SETUP)?;
+    let written = out.len();
     for (line, field, why) in rows {
-        assert!(rt; setup.read(line) == Err(Refusal { field, why }), "{field}");
+        let answer = take(&mut setup, line, &mut out);
+        assert!(rt; answer == Err(EngineFault::Bad { field, why }), "{field}");
+        assert_eq!(rt; out.len(), written);
     }
+    assert_eq!(rt; take(&mut setup, b"OPEN", &mut out)?, SetupStep::Opened);
     Ok(())
 }
 
 #[test]
 fn start_stands_first(rt: HostRuntime) -> Result<(), Fail> {
-    let (setup, out) = read_all(rt.alloc(), b"\n#\xff\n# BANK")?;
+    let (mut setup, mut out) = read_all(rt.alloc(), b"\n#\xff\n# BANK")?;
     assert!(rt; out.is_empty());
     let rows = [
         (b"BANK AAAA".as_slice(), 1, Why::Word),
@@ -101,7 +112,8 @@ fn start_stands_first(rt: HostRuntime) -> Result<(), Fail> {
         (b"\xff".as_slice(), 0, Why::Utf8),
     ];
     for (line, field, why) in rows {
-        assert!(rt; setup.read(line) == Err(Refusal { field, why }), "{field}");
+        let answer = take(&mut setup, line, &mut out);
+        assert!(rt; answer == Err(EngineFault::Bad { field, why }), "{field}");
     }
     Ok(())
 }
@@ -119,7 +131,6 @@ fn a_setup_is_written_in_its_one_form(rt: HostRuntime) -> Result<(), Fail> {
     assert_eq!(rt; setup.lines().len(), 9);
     let start = setup.start().ok_or(NoMemory)?;
     assert_eq!(rt; start.get(), 1_704_067_200);
-    assert_eq!(rt; setup.into_setup(start).lines.items().len(), 9);
     Ok(())
 }
 
@@ -228,6 +239,7 @@ fn a_message_is_heard(rt: HostRuntime) -> Result<(), Fail> {
             msg_id: MsgId::read(b"A1").ok_or(NoMemory)?,
             org: OrgId::read(b"alpha").ok_or(NoMemory)?,
             ts: Moment::of(1_704_067_200).ok_or(NoMemory)?,
+            ver: Ver::One,
         },
         kind: Kind::Pay,
         txn: txn()?,
@@ -238,6 +250,7 @@ fn a_message_is_heard(rt: HostRuntime) -> Result<(), Fail> {
         amount: sum()?,
         payer_ac: None,
         payee_ac: None,
+        extra: None,
     };
     let hear = Call::Hear {
         psp: psp()?,
@@ -272,6 +285,7 @@ fn to_bank(body: Body) -> Result<Sent, Fail> {
         from: Party::Switch,
         to: Party::Bank(BankCode::read(b"AAAA").ok_or(NoMemory)?),
         body,
+        ver: Ver::One,
     })
 }
 
@@ -280,6 +294,7 @@ fn from_psp(body: Body) -> Result<Sent, Fail> {
         from: Party::Psp(psp()?),
         to: Party::Switch,
         body,
+        ver: Ver::One,
     })
 }
 
@@ -290,6 +305,7 @@ fn order(leg: Leg) -> Result<Body, Fail> {
         amount: sum()?,
         ac: AccountRef::read(b"AAAA/1").ok_or(NoMemory)?,
         addr: Addr::read(b"ann@alpha").ok_or(NoMemory)?,
+        extra: None,
     })
 }
 
@@ -327,6 +343,7 @@ fn messages_to_psps(rt: HostRuntime) -> Result<(), Fail> {
         payee: Addr::read(b"bob@beta").ok_or(NoMemory)?,
         amount: sum()?,
         note: None,
+        extra: None,
     };
     sent.push(from_psp(Body::ReqAuth(Boxed::new(rt.alloc(), question)?))?)?;
     sent.push(from_psp(Body::RespAuth {

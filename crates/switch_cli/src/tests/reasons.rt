@@ -19,7 +19,7 @@ pub(super) const FIRST: [(&str, u32, Why); 12] = [
 ];
 
 // Behind the setup, before OPEN.
-pub(super) const SETUP_LINES: [(&str, u32, Why); 48] = [
+pub(super) const SETUP_LINES: [(&str, u32, Why); 42] = [
     ("START 2024-01-01T05:30:00+05:30", 1, Why::Word),
     ("SEND alpha x", 1, Why::Word),
     ("CLOSE", 1, Why::Word),
@@ -57,14 +57,6 @@ pub(super) const SETUP_LINES: [(&str, u32, Why); 48] = [
     ("ADDR new@gamma AAAA/9 YES", 2, Why::NoPsp),
     ("ADDR new@alpha AAAA/9 YES", 3, Why::NoAccount),
     ("OPEN now", 0, Why::Fields),
-    // These can't be done yet.
-    ("ACCOUNT AAAA/2 1.00 NODEBIT", 0, Why::Unbuilt),
-    ("ACCOUNT AAAA/2 1.00 NOCREDIT", 0, Why::Unbuilt),
-    ("ACCOUNT AAAA/2 1.00 NODEBIT NOCREDIT", 0, Why::Unbuilt),
-    ("ACCOUNT AAAA/2 9999000000000.01", 0, Why::Unbuilt),
-    ("ADDR new@alpha AAAA/1 NO", 0, Why::Unbuilt),
-    ("ADDR new@alpha AAAA/1 ASK", 0, Why::Unbuilt),
-    // Neither can these, but they break a rule of the setup first.
     ("ACCOUNT CCCC/1 1.00 NODEBIT", 2, Why::NoBank),
     ("ACCOUNT AAAA/1 9999000000000.01", 2, Why::Twice),
     ("ADDR ann@alpha AAAA/1 NO", 2, Why::Twice),
@@ -72,48 +64,42 @@ pub(super) const SETUP_LINES: [(&str, u32, Why); 48] = [
     ("ADDR new@alpha AAAA/9 ASK", 3, Why::NoAccount),
 ];
 
-// Behind OPEN.
-pub(super) const CALLS: [(&str, u32, Why); 26] = [
+// Behind OPEN, and so behind a CLOSE too.
+pub(super) const CALLS: [(&str, u32, Why); 36] = [
     ("BANK CCCC", 1, Why::Word),
     ("OPEN", 1, Why::Word),
     ("STOP", 1, Why::Word),
     ("send alpha x", 1, Why::Word),
+    (" CLOSE", 1, Why::Word),
     ("SEND", 0, Why::Fields),
     ("SEND alpha", 0, Why::Fields),
     ("SEND Alpha ", 0, Why::Fields),
     ("SEND Alpha x", 2, Why::Value),
+    ("SEND  x", 2, Why::Value),
     ("SEND gamma x", 2, Why::NoPsp),
+    ("DELIVER", 0, Why::Fields),
+    ("DELIVER  1", 0, Why::Fields),
+    ("DELIVER x y", 0, Why::Fields),
+    ("DELIVER x", 2, Why::Value),
+    ("DELIVER -1", 2, Why::Value),
+    ("DELIVER 1234567890123456789", 2, Why::Value),
+    ("LOSE", 0, Why::Fields),
+    ("LOSE x y", 0, Why::Fields),
+    ("LOSE 1x", 2, Why::Value),
+    ("REPEAT 1", 0, Why::Fields),
+    ("REPEAT x 0 1", 0, Why::Fields),
+    ("REPEAT x 0", 2, Why::Value),
+    ("REPEAT 1 0", 3, Why::Value),
+    ("REPEAT 1 1001", 3, Why::Value),
     ("RUN 7", 0, Why::Fields),
     ("RUN x y z", 0, Why::Fields),
     ("RUN x y", 2, Why::Value),
+    ("RUN 1001 y", 2, Why::Value),
     ("RUN 7 1001", 3, Why::Value),
+    ("TICK", 0, Why::Fields),
+    ("TICK x y", 0, Why::Fields),
+    ("TICK x", 2, Why::Value),
+    ("TICK 100000001", 2, Why::Value),
     ("CLOSE now", 0, Why::Fields),
-    // These can't be done yet.
-    ("SEND alpha x", 0, Why::Unbuilt),
-    ("SEND alpha %T1 1.005 bob@beta%", 0, Why::Unbuilt),
-    ("RUN 7 5", 0, Why::Unbuilt),
-    ("DELIVER 1", 0, Why::Unbuilt),
-    ("REPEAT 1 2", 0, Why::Unbuilt),
-    ("LOSE 1", 0, Why::Unbuilt),
-    ("TICK 30", 0, Why::Unbuilt),
-    // Nor these, whatever follows their first word.
-    ("DELIVER", 0, Why::Unbuilt),
-    ("DELIVER x", 0, Why::Unbuilt),
-    ("REPEAT 1", 0, Why::Unbuilt),
-    ("LOSE x y", 0, Why::Unbuilt),
-    ("TICK x y", 0, Why::Unbuilt),
-];
-
-// Behind a CLOSE.
-pub(super) const CLOSED_CALLS: [(&str, u32, Why); 3] = [
-    ("STOP", 1, Why::Word),
-    ("CLOSE now", 0, Why::Fields),
-    ("CLOSE", 0, Why::Unbuilt),
-];
-
-// Behind 100 SEND lines.
-pub(super) const SENT_CALLS: [(&str, u32, Why); 3] = [
-    ("SEND alpha", 0, Why::Fields),
-    ("SEND gamma %T1 30.00 bob@beta%", 2, Why::NoPsp),
-    ("SEND alpha %T1 30.00 bob@beta%", 0, Why::Unbuilt),
+    ("CLOSE ", 0, Why::Fields),
 ];

@@ -1,50 +1,52 @@
-use Rattle.std.proofs.Common.{◌+◌, Some, None, arith, refl, sym, subst}
+use Rattle.std.proofs.Common.{◌≡◌, ◌+◌, refl, arith, sym, subst}
 use Rattle.upi_io.specs.Lines.{ReaderState, ahead}
-use Rattle.script_engine.specs.Play.{Play}
-use Rattle.switch_cli.specs.Steps.{Going}
-use Rattle.switch_cli.proofs.Runs.{begins, look_stops, line_stops, finishes, goes_on, shown}
+use Rattle.script_engine.specs.Play.{Play, blank}
+use Rattle.switch_cli.specs.calls.Steps.{Going}
+use Rattle.switch_cli.proofs.Trust.{trusted}
+use Rattle.switch_cli.proofs.Runs.{begins, run_stops, run_finishes, run_goes_on}
 use Rattle.switch_cli.proofs.script.run_script.Goals as goal
 
 pub lines-init : goal.lines-init
 lines-init g c =
     let source = g.S.Source.left c.args.source.now in
     let sink = g.K.Sink.taken c.args.sink.now in
-    let none = subst (λ (r : ReaderState). Going source (ahead r source) _ 0 sink sink) (sym c.new-reader.ensures) (begins source sink) in
+    let none = subst (λ (r : ReaderState). Going source (ahead r source) blank 0 sink sink) (sym c.new-reader.ensures) (begins source sink) in
+    let blank_play : c.new-engine.result.play ≡ blank = cc in
     record {
       fresh = cc;
       count = cc;
       most = omega arith;
-      going = subst (λ (p : Play). Going source (ahead c.new-reader.result source) p 0 sink sink) (sym c.new-engine.ensures) none;
+      going = subst (λ (p : Play). Going source (ahead c.new-reader.result source) p 0 sink sink) (sym blank_play) none;
+      trusted = trusted c.new-engine.result c.new-engine.ensures.holds;
       read = omega arith;
       write = omega arith;
+      sure = λ e. e;
     }
-
-pub returns-in-End-clause-ran : goal.returns-in-End-clause-ran
-returns-in-End-clause-ran g c =
-    let i = c.lines.invariant in
-    finishes _ _ _ c.lines.engine c.lines.number c.look.new.line.items _ _ _ c.finish.result i.going c.is_legal.ensures i.most c.in-End.ensures.answer c.finish.ensures.bytes
-
-pub returns-in-Stop-clause-ran : goal.returns-in-Stop-clause-ran
-returns-in-Stop-clause-ran g c =
-    let i = c.lines.invariant in
-    look_stops _ _ _ c.lines.engine c.lines.number c.look.new.line.items _ _ c.in-Stop.status i.going c.is_legal.ensures i.most c.in-Stop.ensures.answer
-
-pub returns-in-Some-clause-ran : goal.returns-in-Some-clause-ran
-returns-in-Some-clause-ran g c =
-    let i = c.lines.invariant in
-    let b = shown c.lines.engine c.deref.result.now c.look.new.line.items (c.lines.number + 1) (g.K.Sink.taken c.lines.sink) (g.K.Sink.taken c.answer.new.sink) c.answer.new.engine (Some c.in-Some.status) c.deref.ensures.value c.in-Some.ensures.bytes in
-    line_stops _ _ _ c.lines.engine c.lines.number c.look.new.line.items _ _ _ c.in-Some.status i.going c.is_legal.ensures c.in-Line.ensures.answer.0 c.in-Line.ensures.answer.1 b
 
 pub lines-preserved : goal.lines-preserved
 lines-preserved g c =
     let i = c.lines.invariant in
-    let b = shown c.lines.engine c.deref.result.now c.look.new.line.items (c.lines.number + 1) (g.K.Sink.taken c.lines.sink) (g.K.Sink.taken c.answer.new.sink) c.answer.new.engine None c.deref.ensures.value c.in_default.ensures.bytes in
-    let next = c.in-Line.ensures.go_on refl in
+    let going = rw c.in-Ok-Got.field-0-is at c.in-Ok-Got.ensures.steps in
+    let reader = rw c.in-Ok-Got.field-0-is at c.in-Ok-Got.ensures.go_on in
+    let next = run_goes_on _ _ _ _ c.lines.engine.play c.step.new.engine.play c.lines.number c.lines.reader.lines c.step.new.line.items _ _ _ i.count i.going going in
+    let fresh = reader refl in
     record {
-      fresh = next.0;
-      count = omega (arith, next);
-      most = omega (arith, c.in-Line.ensures.answer.0);
-      going = goes_on _ _ _ c.lines.engine c.answer.new.engine c.lines.number c.look.new.line.items _ _ _ i.going c.in-Line.ensures.answer.1 b;
-      read = omega (arith, c.in-Line.ensures.rises, i.read);
-      write = omega (arith, c.in_default.ensures.rises, i.write);
+      fresh = fresh.0;
+      count = omega (arith, i.count, fresh.1);
+      most = omega (arith, next.0);
+      going = next.1;
+      trusted = c.step.ensures.trusted i.trusted;
+      read = omega (arith, c.step.ensures.reads, i.read);
+      write = omega (arith, c.step.ensures.writes, i.write);
+      sure = λ e. (c.step.ensures.sure (i.sure e)).0;
     }
+
+pub returns-in-Ok-End-clause-ran : goal.returns-in-Ok-End-clause-ran
+returns-in-Ok-End-clause-ran g c =
+    let i = c.lines.invariant in
+    run_finishes _ _ _ c.step.new.reader.held c.lines.engine.play c.step.new.engine.play c.lines.number c.lines.reader.lines c.step.new.line.items _ _ _ i.count i.going i.trusted (c.step.ensures.trusted i.trusted) i.most (rw c.in-Ok-End.field-0-is at c.in-Ok-End.ensures.steps)
+
+pub returns-in-Err-clause-ran : goal.returns-in-Err-clause-ran
+returns-in-Err-clause-ran g c =
+    let i = c.lines.invariant in
+    rw c.status_of.ensures (run_stops _ _ _ c.step.new.reader.held c.lines.engine.play c.step.new.engine.play c.lines.number c.lines.reader.lines c.step.new.line.items _ _ _ c.in-Err.stop i.count i.going i.trusted i.most c.in-Err.ensures.steps)

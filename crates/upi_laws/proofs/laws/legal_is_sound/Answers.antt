@@ -1,4 +1,4 @@
-use Rattle.upi_laws.proofs.Settled.{legal_is_sound}
+use Rattle.upi_laws.proofs.Promise.{legal_is_sound}
 use Rattle.upi_laws.proofs.laws.legal_is_sound.Goals as goal
 
 pub returns : goal.returns

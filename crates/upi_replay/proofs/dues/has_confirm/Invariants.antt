@@ -1,6 +1,6 @@
 use Rattle.std.proofs.Common.{◌≡◌, drop}
 use Rattle.std.specs.List.{list_any}
-use Rattle.upi_laws.specs.Dues.{confirms}
+use Rattle.upi_model.specs.Dues.{confirms}
 use Rattle.upi_replay.proofs.dues.has_confirm.Given as goal
 
 abbrev pub invariant-loop-sent : goal.invariant-loop-sent

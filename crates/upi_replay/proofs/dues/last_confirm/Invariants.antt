@@ -1,7 +1,7 @@
 use Rattle.std.proofs.Common.{◌≡◌, take}
-use Rattle.upi_laws.specs.Dues.{confirms, last_sent, thirty_after}
-use Rattle.upi_replay.specs.Rows.{past}
+use Rattle.upi_model.specs.Dues.{confirms, last_sent, due_after}
+use Rattle.upi_model.specs.History.{past}
 use Rattle.upi_replay.proofs.dues.last_confirm.Given as goal
 
 abbrev pub invariant-loop-e : goal.invariant-loop-e
-invariant-loop-e l = l.last ≡ thirty_after (last_sent (confirms l.txn) (past (take l.e-index l.history)))
+invariant-loop-e l = l.last ≡ due_after (last_sent (confirms l.txn) (past (take l.e-index l.history)))

@@ -1,6 +1,6 @@
 use Rattle.std.proofs.Common.{◌≡◌, drop}
 use Rattle.std.specs.List.{list_any}
-use Rattle.upi_laws.specs.Places.{has_id}
+use Rattle.upi_model.specs.Places.{has_id}
 use Rattle.upi_replay.specs.Rows.{openings}
 use Rattle.upi_replay.proofs.rules.has_txn.Given as goal
 

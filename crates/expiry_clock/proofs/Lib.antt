@@ -1,0 +1,5 @@
+pub mod Repairs
+pub mod Values
+pub mod Plants
+pub mod Finds
+pub mod Changes

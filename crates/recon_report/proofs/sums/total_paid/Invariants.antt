@@ -1,6 +1,0 @@
-use Rattle.std.proofs.Common.{◌≡◌, ◌≤◌, ◌*◌, take}
-use Rattle.recon_report.specs.ByRows.{rows_paid}
-use Rattle.recon_report.proofs.sums.total_paid.Given as goal
-
-abbrev pub invariant-loop-row : goal.invariant-loop-row
-invariant-loop-row l = (l.sum ≡ rows_paid l.setup l.bank (take l.row-index l.rows)) × (l.sum ≤ 1_000_000_000_000_000 * l.row-index)

@@ -1,0 +1,13 @@
+//! Worked rows: whole histories, entry by entry, with what they come to. It is a library of tests.
+#![tactic(auto)]
+
+#[cfg(test)]
+mod edges;
+#[cfg(test)]
+mod play;
+#[cfg(test)]
+mod rows;
+#[cfg(test)]
+mod tests;
+#[cfg(test)]
+mod versions;

@@ -1,0 +1,5 @@
+pub mod Reading
+pub mod Tries
+pub mod Marks
+pub mod Playing
+pub mod Ending

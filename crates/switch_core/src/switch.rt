@@ -1,0 +1,213 @@
+//! The core: one switch, called by one caller.
+use crate::balances::{all_held, held};
+use crate::fault::{At, CoreFault, SetupFault};
+use crate::setup::first_refused;
+use std::alloc::Global;
+use std::marker::Model;
+use upi_base::{
+    AccountRef, Call, Done, Entry, Moment, NoMemory, Outcome, Sent, Setup, SetupLine, TxnId,
+    TxnRow, account_named,
+};
+use upi_replay::Replay;
+
+/// A switch. Contracts see its setup, which is accepted, and its history, which is legal.
+#[derive(Drop)]
+pub struct Core {
+    alloc: Global,
+    replay: Replay,
+}
+
+impl Model for Core {
+    ghost use Rattle.upi_model.specs.Chronicle.{Chronicle};
+    ghost use Rattle.switch_core.specs.Calls.{IsSwitch};
+
+    ghost Value = { Chronicle };
+
+    ghost view = { λ c. c.replay };
+
+    ghost invariant = { λ c. IsSwitch c.replay };
+}
+
+impl Core {
+    ghost use Rattle.std.specs.Prelude.{◌≡◌, IfOk, OnErr, None, length};
+    ghost use Rattle.std.specs.Option.{option_copied};
+    ghost use Rattle.upi_model.specs.History;
+    ghost use Rattle.upi_model.specs.DueList;
+    ghost use Rattle.upi_model.specs.Outcomes;
+    ghost use Rattle.upi_model.specs.Postings;
+    ghost use Rattle.upi_model.specs.Settlement;
+    ghost use Rattle.upi_base.specs.Setup.{accounts};
+    ghost use Rattle.switch_core.specs.Held;
+    ghost use Rattle.switch_core.specs.Calls;
+
+    /// A switch over a setup, with no history yet. `alloc` serves what it will keep. It refuses
+    /// exactly where a line isn't accepted behind those before it, with the first such line; it
+    /// may also find no memory.
+    #[tactic(auto, using(crate::proofs::Refused::new_switch))]
+    pub fn new(alloc: Global, setup: Setup) -> Result<Core, At>
+        ensures answer { Calls.NewAnswer setup.lines result }
+        ensures switch { IfOk result Calls.IsSwitch }
+    {
+        if let Some((at, why)) = first_refused(setup.lines.items()) {
+            return Err(At {
+                at,
+                fault: SetupFault::Refused(why),
+            });
+        }
+        Ok(Core {
+            alloc,
+            replay: Replay::new(alloc, setup.lines),
+        })
+    }
+
+    // Why a call is refused, if it is.
+    fn refusal(&self, call: &Call) -> Option<CoreFault>
+        ensures why { result ≡ Calls.refused_by self.now.history call.now }
+        ensures switch { Calls.IsSwitch self.now }
+    {
+        if !self.replay.has_room(call) {
+            return Some(CoreFault::Full {
+                len: self.replay.len(),
+            });
+        }
+        match call {
+            Call::Deliver(n) | Call::Lose(n) => self.missing(*n),
+            _ => None,
+        }
+    }
+
+    // That the message of a number wasn't sent, if it wasn't.
+    fn missing(&self, n: u64) -> Option<CoreFault>
+        ensures { result ≡ Calls.missing self.now.history n }
+    {
+        let sent = self.replay.sent_count();
+        if n == 0 || n > sent {
+            Some(CoreFault::NoMessage { n, sent })
+        } else {
+            None
+        }
+    }
+
+    // Takes a call that nothing refuses.
+    fn accept(&mut self, call: Call, now: Moment) -> Result<Done, NoMemory>
+        requires known { Calls.IsKnown self.old.setup call }
+        requires free { Calls.refused_by self.old.history call ≡ None }
+        ensures ok { IfOk result (λ done. (self.new ≡ Calls.with_call self.old call now) × (done ≡ Calls.done_of self.old call now)) }
+        ensures err { OnErr result (self.new ≡ self.old) }
+        ensures switch { Calls.IsSwitch self.new }
+    {
+        let step = self.replay.plan(0, call, now)?;
+        let reply = step.entry.reply;
+        self.replay.commit(step)?;
+        Ok(Done {
+            reply,
+            place: self.replay.len(),
+        })
+    }
+
+    /// Takes a call at a moment. Condition: the PSP of a Hear is in the setup. An accepted call
+    /// adds its entry, with caller 0; the answer has the reply and the entry's place, counted
+    /// from 1. A refused one changes nothing, and want of memory neither.
+    pub fn apply(&mut self, call: Call, now: Moment) -> Result<Done, CoreFault>
+        requires { Calls.IsKnown self.old.setup call }
+        ensures answer { Calls.ApplyAnswer self.old call now self.new result }
+        ensures switch { Calls.IsSwitch self.new }
+    {
+        match self.refusal(&call) {
+            Some(fault) => Err(fault),
+            None => Ok(self.accept(call, now)?),
+        }
+    }
+
+    /// The lines of the setup.
+    pub fn lines(&self) -> &[SetupLine]
+        ensures { result.now ≡ self.now.setup }
+    {
+        self.replay.lines()
+    }
+
+    /// How many entries there are.
+    pub fn len(&self) -> u64
+        ensures { result ≡ length self.now.history }
+    {
+        self.replay.len()
+    }
+
+    /// How many messages were sent.
+    pub fn sent_count(&self) -> u64
+        ensures { result ≡ History.sent_count self.now.history }
+    {
+        self.replay.sent_count()
+    }
+
+    /// Whether the switch was closed.
+    pub fn is_closed(&self) -> bool
+        ensures { result ≡ History.is_closed self.now.history }
+    {
+        self.replay.is_closed()
+    }
+
+    /// The entry at a place, counted from 1; `None` exactly where there is none.
+    pub fn entry(&self, k: u64) -> Option<&Entry>
+        ensures { option_copied result ≡ Calls.entry_at self.now.history k }
+    {
+        if k == 0 {
+            return None;
+        }
+        self.replay.entries().get(k as usize - 1)
+    }
+
+    /// The message of a number, counted from 1; `None` exactly where it wasn't sent.
+    pub fn message(&self, n: u64) -> Option<&Sent>
+        ensures { option_copied result ≡ History.message_at self.now.history n }
+    {
+        self.replay.message(n)
+    }
+
+    /// The outcome of a transaction, if it has one.
+    pub fn outcome(&self, txn: &TxnId) -> Option<Outcome>
+        ensures { result ≡ Outcomes.outcome_of self.now.setup txn.now self.now.history }
+    {
+        self.replay.outcome(txn)
+    }
+
+    /// The money in flight, in paise: what was debited and neither credited nor returned.
+    pub fn flight(&self) -> u128
+        ensures { result ≡ Postings.flight self.now.setup self.now.history }
+    {
+        self.replay.flight()
+    }
+
+    /// The transactions whose due moment isn't after this one, with their due moments: by these,
+    /// then by the bytes of their names.
+    pub fn due(&self, now: u64) -> Result<Vec<(u64, TxnId)>, NoMemory>
+        ensures { IfOk result (λ v. v.items ≡ DueList.due_list self.now.setup self.now.history now) }
+    {
+        self.replay.due(now)
+    }
+
+    /// The transactions as settlement and the report see them, in opening order.
+    pub fn rows(&self) -> Result<Vec<TxnRow>, NoMemory>
+        ensures { IfOk result (λ v. v.items ≡ Settlement.txn_rows self.now.setup self.now.history) }
+    {
+        self.replay.rows()
+    }
+
+    /// What an account holds, in paise; `None` exactly where the setup has no such account.
+    pub fn balance(&self, ac: &AccountRef) -> Option<u64>
+        ensures { result ≡ Held.balance_at self.now.setup self.now.history ac.now }
+    {
+        match account_named(self.replay.lines(), ac) {
+            Some(account) => Some(held(&self.replay, &account)),
+            None => None,
+        }
+    }
+
+    /// The accounts and what they hold, in setup order.
+    pub fn balances(&self) -> Result<Vec<(AccountRef, u64)>, NoMemory>
+        ensures { IfOk result (λ v. v.items ≡ Held.held_by self.now.setup self.now.history (accounts self.now.setup)) }
+    {
+        let all = all_held(self.alloc, &self.replay)?;
+        Ok(all)
+    }
+}

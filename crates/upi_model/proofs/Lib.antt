@@ -1,0 +1,12 @@
+pub mod Stays
+pub mod Facts
+pub mod Openings
+pub mod Steps
+pub mod Beginnings
+pub mod Standing
+pub mod Happenings
+pub mod Own
+pub mod DueOrder
+pub mod Fronts
+pub mod MadeEntries
+pub mod Gathered

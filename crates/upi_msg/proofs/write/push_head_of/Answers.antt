@@ -1,0 +1,9 @@
+use Rattle.std.proofs.Common.{refl}
+use Rattle.upi_msg.proofs.Pieces.{grows}
+use Rattle.upi_msg.proofs.Parts.{head_parts, head_text}
+use Rattle.upi_msg.proofs.write.push_head_of.Goals as goal
+
+pub returns : goal.returns
+returns c =
+    grows c.args.out.now.items (head_parts c.args.msg.now c.args.org.now c.args.ts c.args.ver) _ c.push.new.self.items (head_text c.args.msg.now c.args.org.now c.args.ts c.args.ver)
+    (_, c.in_ok-push_member.ensures, (_, c.in_ok-push_member-2.ensures, (_, c.in_ok-extend_from_slice.ensures.items, (_, c.in_ok-push_moment.ensures, (_, (rw (← c.ver_text.ensures) c.in_ok-push_member-3.ensures), (_, c.in_ok-push.ensures.items, refl))))))

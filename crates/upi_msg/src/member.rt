@@ -1,0 +1,148 @@
+//! Members of a JSON tree, each with its first fault.
+ghost use Rattle.std.specs.Prelude.{◌≡◌, ◌<◌, option_map};
+ghost use Rattle.serde_json.specs.View.{view, items_view};
+ghost use Rattle.upi_base.specs.Texts.{fits};
+ghost use Rattle.upi_msg.specs.Members;
+ghost use Rattle.upi_msg.specs.Members.{Gives};
+
+use crate::place::{Fault, Name, Part, Place, name_text};
+use serde_json::Value;
+use upi_base::{Moment, MsgWhy, Rule, Text};
+
+/// What has to be within its grammar.
+pub(crate) fn of_value<X>(place: Place, value: Option<X>) -> Result<X, Fault>
+    ensures { result ≡ Members.of_value place value }
+{
+    match value {
+        Some(value) => Ok(value),
+        None => Err(Fault {
+            place,
+            why: MsgWhy::Value,
+        }),
+    }
+}
+
+/// What has to be there once.
+pub(crate) fn of_count<X>(place: Place, value: Option<X>) -> Result<X, Fault>
+    ensures { result ≡ Members.of_count place value }
+{
+    match value {
+        Some(value) => Ok(value),
+        None => Err(Fault {
+            place,
+            why: MsgWhy::Count,
+        }),
+    }
+}
+
+/// A tree that has to be a text.
+#[tactic(auto, unfolding(crate::specs::Members::text_of))]
+pub(crate) fn text_of<'a>(place: Place, value: &'a Value) -> Result<&'a str, Fault>
+    ensures { Gives (λ s. s.now) result (Members.text_of place (view value.entry.now)) }
+{
+    match value.as_str() {
+        Some(text) => Ok(text),
+        None => Err(Fault {
+            place,
+            why: MsgWhy::Kind,
+        }),
+    }
+}
+
+/// A tree that has to be an object.
+#[tactic(auto, unfolding(crate::specs::Members::object_of))]
+pub(crate) fn object_of<'a>(place: Place, value: &'a Value) -> Result<&'a Value, Fault>
+    ensures { Gives (λ v. view v.now) result (Members.object_of place (view value.entry.now)) }
+{
+    match value.as_object() {
+        Some(_) => Ok(value),
+        None => Err(Fault {
+            place,
+            why: MsgWhy::Kind,
+        }),
+    }
+}
+
+/// A tree that has to be a list.
+#[tactic(auto, unfolding(crate::specs::Members::list_of))]
+pub(crate) fn list_of<'a>(place: Place, value: &'a Value) -> Result<&'a [Value], Fault>
+    ensures { Gives (λ l. items_view l.now) result (Members.list_of place (view value.entry.now)) }
+{
+    match value.as_array() {
+        Some(list) => Ok(list.as_slice()),
+        None => Err(Fault {
+            place,
+            why: MsgWhy::Kind,
+        }),
+    }
+}
+
+/// A member that has to be there.
+#[tactic(auto, unfolding(crate::specs::Members::member_at))]
+pub(crate) fn member_at<'a>(place: Place, name: Name, value: &'a Value) -> Result<&'a Value, Fault>
+    ensures { Gives (λ v. view v.now) result
+        (Members.member_at place name (view value.entry.now)) }
+{
+    match value.get(name_text(name)) {
+        Some(member) => Ok(member),
+        None => Err(Fault {
+            place,
+            why: MsgWhy::Missing,
+        }),
+    }
+}
+
+/// A member that has to be there, and a text.
+#[tactic(auto, unfolding(crate::specs::Members::text_at))]
+pub(crate) fn text_at<'a>(place: Place, name: Name, value: &'a Value) -> Result<&'a str, Fault>
+    ensures { Gives (λ s. s.now) result (Members.text_at place name (view value.entry.now)) }
+{
+    let member = member_at(place, name, value)?;
+    text_of(place, member)
+}
+
+/// A member that has to be there, and an object.
+#[tactic(auto, unfolding(crate::specs::Members::object_in))]
+pub(crate) fn object_in<'a>(part: Part, name: Name, value: &'a Value) -> Result<&'a Value, Fault>
+    ensures { Gives (λ v. view v.now) result (Members.object_in part name (view value.entry.now)) }
+{
+    let place = Place::Member(part, name);
+    let member = member_at(place, name, value)?;
+    object_of(place, member)
+}
+
+/// A member that has to be there, and a list.
+#[tactic(auto, unfolding(crate::specs::Members::list_in))]
+pub(crate) fn list_in<'a>(part: Part, name: Name, value: &'a Value) -> Result<&'a [Value], Fault>
+    ensures { Gives (λ l. items_view l.now) result
+        (Members.list_in part name (view value.entry.now)) }
+{
+    let place = Place::Member(part, name);
+    let member = member_at(place, name, value)?;
+    list_of(place, member)
+}
+
+/// A member that has to be there, and a text of some grammar.
+#[tactic(auto, unfolding(crate::specs::Members::small_in))]
+pub(crate) fn small_in<R: Rule, const N: usize>(
+    part: Part,
+    name: Name,
+    value: &Value,
+) -> Result<Text<R, N>, Fault>
+    requires { N < 256 }
+    ensures { result ≡ Members.small_in (fits N R.allows) part name (view value.now) }
+{
+    let place = Place::Member(part, name);
+    let text = text_at(place, name, value)?;
+    of_value(place, Text::read(text.as_bytes()))
+}
+
+/// A member that has to be there, and a moment.
+#[tactic(auto, unfolding(crate::specs::Members::moment_in))]
+pub(crate) fn moment_in(part: Part, name: Name, value: &Value) -> Result<Moment, Fault>
+    ensures { result ≡ Members.moment_in part name (view value.now) }
+{
+    let place = Place::Member(part, name);
+    let text = text_at(place, name, value)?;
+    of_value(place, Moment::read(text.as_bytes()))
+}

@@ -1,0 +1,638 @@
+//! The first faults of a yes or a no.
+use super::{ANSWER, edited, is_bad};
+use std::test::Fail;
+use upi_base::MsgWhy;
+
+#[test]
+fn answer_faults_1(rt: HostRuntime) -> Result<(), Fail> {
+    let alloc = rt.alloc();
+    for (old, new, path, why) in [
+        (
+            "\"Head\":{",
+            "\"x\":{",
+            "RespAuthDetails.Head",
+            MsgWhy::Missing,
+        ),
+        (
+            "\"Head\":{\"msgId\":\"A2\",\"orgId\":\"alpha\",\"ts\":\"2024-01-01T00:00:00Z\",\"ver\":\"1.0\"}",
+            "\"Head\":[]",
+            "RespAuthDetails.Head",
+            MsgWhy::Kind,
+        ),
+        (
+            "\"msgId\":\"A2\"",
+            "\"x\":\"A2\"",
+            "RespAuthDetails.Head.msgId",
+            MsgWhy::Missing,
+        ),
+        (
+            "\"msgId\":\"A2\"",
+            "\"msgId\":1",
+            "RespAuthDetails.Head.msgId",
+            MsgWhy::Kind,
+        ),
+        (
+            "\"msgId\":\"A2\"",
+            "\"msgId\":null",
+            "RespAuthDetails.Head.msgId",
+            MsgWhy::Kind,
+        ),
+        (
+            "\"msgId\":\"A2\"",
+            "\"msgId\":\"\"",
+            "RespAuthDetails.Head.msgId",
+            MsgWhy::Value,
+        ),
+        (
+            "\"msgId\":\"A2\"",
+            "\"msgId\":\"a b\"",
+            "RespAuthDetails.Head.msgId",
+            MsgWhy::Value,
+        ),
+        (
+            "\"msgId\":\"A2\"",
+            "\"msgId\":\"aaaaaaaaaaaaaaaaaaaaaaaaaaaaaaaaaaaa\"",
+            "RespAuthDetails.Head.msgId",
+            MsgWhy::Value,
+        ),
+        (
+            "\"orgId\":\"alpha\"",
+            "\"x\":\"alpha\"",
+            "RespAuthDetails.Head.orgId",
+            MsgWhy::Missing,
+        ),
+        (
+            "\"orgId\":\"alpha\"",
+            "\"orgId\":1",
+            "RespAuthDetails.Head.orgId",
+            MsgWhy::Kind,
+        ),
+        (
+            "\"orgId\":\"alpha\"",
+            "\"orgId\":null",
+            "RespAuthDetails.Head.orgId",
+            MsgWhy::Kind,
+        ),
+        (
+            "\"orgId\":\"alpha\"",
+            "\"orgId\":\"\"",
+            "RespAuthDetails.Head.orgId",
+            MsgWhy::Value,
+        ),
+    ] {
+        let input = edited(alloc, ANSWER, old, new)?;
+        assert!(rt; is_bad(&input, path, why), "{new}");
+    }
+    Ok(())
+}
+
+#[test]
+fn answer_faults_2(rt: HostRuntime) -> Result<(), Fail> {
+    let alloc = rt.alloc();
+    for (old, new, path, why) in [
+        (
+            "\"orgId\":\"alpha\"",
+            "\"orgId\":\"aaaaaaaaaaaaaaaaaaaaa\"",
+            "RespAuthDetails.Head.orgId",
+            MsgWhy::Value,
+        ),
+        (
+            "\"ts\":\"2024-01-01T00:00:00Z\"",
+            "\"x\":\"2024-01-01T00:00:00Z\"",
+            "RespAuthDetails.Head.ts",
+            MsgWhy::Missing,
+        ),
+        (
+            "\"ts\":\"2024-01-01T00:00:00Z\"",
+            "\"ts\":1",
+            "RespAuthDetails.Head.ts",
+            MsgWhy::Kind,
+        ),
+        (
+            "\"ts\":\"2024-01-01T00:00:00Z\"",
+            "\"ts\":null",
+            "RespAuthDetails.Head.ts",
+            MsgWhy::Kind,
+        ),
+        (
+            "\"ts\":\"2024-01-01T00:00:00Z\"",
+            "\"ts\":\"2024-02-30T00:00:00Z\"",
+            "RespAuthDetails.Head.ts",
+            MsgWhy::Value,
+        ),
+        (
+            "\"ts\":\"2024-01-01T00:00:00Z\"",
+            "\"ts\":\"1969-12-31T23:59:59Z\"",
+            "RespAuthDetails.Head.ts",
+            MsgWhy::Value,
+        ),
+        (
+            "\"ts\":\"2024-01-01T00:00:00Z\"",
+            "\"ts\":\"2024-01-01\"",
+            "RespAuthDetails.Head.ts",
+            MsgWhy::Value,
+        ),
+        (
+            "\"ver\":\"1.0\"",
+            "\"x\":\"1.0\"",
+            "RespAuthDetails.Head.ver",
+            MsgWhy::Missing,
+        ),
+        (
+            "\"ver\":\"1.0\"",
+            "\"ver\":1",
+            "RespAuthDetails.Head.ver",
+            MsgWhy::Kind,
+        ),
+        (
+            "\"ver\":\"1.0\"",
+            "\"ver\":null",
+            "RespAuthDetails.Head.ver",
+            MsgWhy::Kind,
+        ),
+        (
+            "\"ver\":\"1.0\"",
+            "\"ver\":\"3.0\"",
+            "RespAuthDetails.Head.ver",
+            MsgWhy::Value,
+        ),
+        (
+            "\"ver\":\"1.0\"",
+            "\"ver\":\"1\"",
+            "RespAuthDetails.Head.ver",
+            MsgWhy::Value,
+        ),
+    ] {
+        let input = edited(alloc, ANSWER, old, new)?;
+        assert!(rt; is_bad(&input, path, why), "{new}");
+    }
+    Ok(())
+}
+
+#[test]
+fn answer_faults_3(rt: HostRuntime) -> Result<(), Fail> {
+    let alloc = rt.alloc();
+    for (old, new, path, why) in [
+        (
+            "\"Resp\":{",
+            "\"x\":{",
+            "RespAuthDetails.Resp",
+            MsgWhy::Missing,
+        ),
+        (
+            "\"Resp\":{\"reqMsgId\":\"M1\",\"result\":\"SUCCESS\"}",
+            "\"Resp\":1",
+            "RespAuthDetails.Resp",
+            MsgWhy::Kind,
+        ),
+        (
+            "\"reqMsgId\":\"M1\"",
+            "\"x\":\"M1\"",
+            "RespAuthDetails.Resp.reqMsgId",
+            MsgWhy::Missing,
+        ),
+        (
+            "\"reqMsgId\":\"M1\"",
+            "\"reqMsgId\":{}",
+            "RespAuthDetails.Resp.reqMsgId",
+            MsgWhy::Kind,
+        ),
+        (
+            "\"reqMsgId\":\"M1\"",
+            "\"reqMsgId\":\"\"",
+            "RespAuthDetails.Resp.reqMsgId",
+            MsgWhy::Value,
+        ),
+        (
+            "\"result\":\"SUCCESS\"",
+            "\"x\":\"SUCCESS\"",
+            "RespAuthDetails.Resp.result",
+            MsgWhy::Missing,
+        ),
+        (
+            "\"result\":\"SUCCESS\"",
+            "\"result\":{}",
+            "RespAuthDetails.Resp.result",
+            MsgWhy::Kind,
+        ),
+        (
+            "\"result\":\"SUCCESS\"",
+            "\"result\":\"\"",
+            "RespAuthDetails.Resp.result",
+            MsgWhy::Value,
+        ),
+        (
+            "\"result\":\"SUCCESS\"",
+            "\"result\":\"DEEMED\"",
+            "RespAuthDetails.Resp.result",
+            MsgWhy::Value,
+        ),
+        (
+            "\"Txn\":{",
+            "\"x\":{",
+            "RespAuthDetails.Txn",
+            MsgWhy::Missing,
+        ),
+        (
+            "\"Txn\":{\"id\":\"C1\"}",
+            "\"Txn\":[]",
+            "RespAuthDetails.Txn",
+            MsgWhy::Kind,
+        ),
+        (
+            "\"id\":\"C1\"",
+            "\"x\":1",
+            "RespAuthDetails.Txn.id",
+            MsgWhy::Missing,
+        ),
+    ] {
+        let input = edited(alloc, ANSWER, old, new)?;
+        assert!(rt; is_bad(&input, path, why), "{new}");
+    }
+    Ok(())
+}
+
+#[test]
+fn answer_faults_4(rt: HostRuntime) -> Result<(), Fail> {
+    let alloc = rt.alloc();
+    for (old, new, path, why) in [
+        (
+            "\"id\":\"C1\"",
+            "\"id\":1",
+            "RespAuthDetails.Txn.id",
+            MsgWhy::Kind,
+        ),
+        (
+            "\"id\":\"C1\"",
+            "\"id\":\"/\"",
+            "RespAuthDetails.Txn.id",
+            MsgWhy::Value,
+        ),
+        (
+            "\"Payer\":{",
+            "\"x\":{",
+            "RespAuthDetails.Payer",
+            MsgWhy::Missing,
+        ),
+        (
+            "\"Amount\":{\"curr\":\"INR\",\"value\":\"30.0\"}",
+            "\"x\":1",
+            "RespAuthDetails.Payer.Amount",
+            MsgWhy::Missing,
+        ),
+        (
+            "\"Amount\":{\"curr\":\"INR\",\"value\":\"30.0\"}",
+            "\"Amount\":\"30.00\"",
+            "RespAuthDetails.Payer.Amount",
+            MsgWhy::Kind,
+        ),
+        (
+            "\"Amount\":{\"curr\":\"INR\",\"value\":\"30.0\"}",
+            "\"Amount\":{\"value\":\"30.0\"}",
+            "RespAuthDetails.Payer.Amount.curr",
+            MsgWhy::Missing,
+        ),
+        (
+            "\"Amount\":{\"curr\":\"INR\",\"value\":\"30.0\"}",
+            "\"Amount\":{\"curr\":{},\"value\":\"30.0\"}",
+            "RespAuthDetails.Payer.Amount.curr",
+            MsgWhy::Kind,
+        ),
+        (
+            "\"Amount\":{\"curr\":\"INR\",\"value\":\"30.0\"}",
+            "\"Amount\":{\"curr\":\"inr\",\"value\":\"30.0\"}",
+            "RespAuthDetails.Payer.Amount.curr",
+            MsgWhy::Value,
+        ),
+        (
+            "\"Amount\":{\"curr\":\"INR\",\"value\":\"30.0\"}",
+            "\"Amount\":{\"curr\":\"INR\"}",
+            "RespAuthDetails.Payer.Amount.value",
+            MsgWhy::Missing,
+        ),
+        (
+            "\"Amount\":{\"curr\":\"INR\",\"value\":\"30.0\"}",
+            "\"Amount\":{\"curr\":\"INR\",\"value\":30.00}",
+            "RespAuthDetails.Payer.Amount.value",
+            MsgWhy::Kind,
+        ),
+        (
+            "\"Amount\":{\"curr\":\"INR\",\"value\":\"30.0\"}",
+            "\"Amount\":{\"curr\":\"INR\",\"value\":\"30.000\"}",
+            "RespAuthDetails.Payer.Amount.value",
+            MsgWhy::Value,
+        ),
+        (
+            "\"Amount\":{\"curr\":\"INR\",\"value\":\"30.0\"}",
+            "\"Amount\":{\"curr\":\"INR\",\"value\":\"\"}",
+            "RespAuthDetails.Payer.Amount.value",
+            MsgWhy::Value,
+        ),
+    ] {
+        let input = edited(alloc, ANSWER, old, new)?;
+        assert!(rt; is_bad(&input, path, why), "{new}");
+    }
+    Ok(())
+}
+
+#[test]
+fn answer_faults_5(rt: HostRuntime) -> Result<(), Fail> {
+    let alloc = rt.alloc();
+    for (old, new, path, why) in [
+        (
+            "\"Amount\":{\"curr\":\"INR\",\"value\":\"30.0\"}",
+            "\"Amount\":{\"curr\":\"INR\",\"value\":\"-1\"}",
+            "RespAuthDetails.Payer.Amount.value",
+            MsgWhy::Value,
+        ),
+        (
+            "\"Amount\":{\"curr\":\"INR\",\"value\":\"30.0\"}",
+            "\"Amount\":{\"curr\":\"INR\",\"value\":\"1e3\"}",
+            "RespAuthDetails.Payer.Amount.value",
+            MsgWhy::Value,
+        ),
+        (
+            "\"Amount\":{\"curr\":\"INR\",\"value\":\"30.0\"}",
+            "\"Amount\":{\"curr\":\"INR\",\"value\":\"10000000000000.01\"}",
+            "RespAuthDetails.Payer.Amount.value",
+            MsgWhy::Value,
+        ),
+        (
+            "\"Amount\":{\"curr\":\"INR\",\"value\":\"30.0\"}",
+            "\"Amount\":{\"curr\":\"INR\",\"value\":\".5\"}",
+            "RespAuthDetails.Payer.Amount.value",
+            MsgWhy::Value,
+        ),
+        (
+            "\"Amount\":{\"curr\":\"INR\",\"value\":\"30.0\"}",
+            "\"Amount\":{\"curr\":\"INR\",\"value\":\"30.\"}",
+            "RespAuthDetails.Payer.Amount.value",
+            MsgWhy::Value,
+        ),
+        (
+            "\"Ac\":{\"Detail\":[{\"name\":\"ACNUM\",\"value\":\"1\"},{\"name\":\"IFSC\",\"value\":\"AAAA0000000\"}],\"addrType\":\"ACCOUNT\"}",
+            "\"Ac\":7",
+            "RespAuthDetails.Payer.Ac",
+            MsgWhy::Kind,
+        ),
+        (
+            "\"Ac\":{\"Detail\":[{\"name\":\"ACNUM\",\"value\":\"1\"},{\"name\":\"IFSC\",\"value\":\"AAAA0000000\"}],\"addrType\":\"ACCOUNT\"}",
+            "\"Ac\":null",
+            "RespAuthDetails.Payer.Ac",
+            MsgWhy::Kind,
+        ),
+        (
+            "\"Ac\":{\"Detail\":[{\"name\":\"ACNUM\",\"value\":\"1\"},{\"name\":\"IFSC\",\"value\":\"AAAA0000000\"}],\"addrType\":\"ACCOUNT\"}",
+            "\"Ac\":{\"addrType\":\"ACCOUNT\"}",
+            "RespAuthDetails.Payer.Ac.Detail",
+            MsgWhy::Missing,
+        ),
+        (
+            "\"Ac\":{\"Detail\":[{\"name\":\"ACNUM\",\"value\":\"1\"},{\"name\":\"IFSC\",\"value\":\"AAAA0000000\"}],\"addrType\":\"ACCOUNT\"}",
+            "\"Ac\":{\"Detail\":{},\"addrType\":\"ACCOUNT\"}",
+            "RespAuthDetails.Payer.Ac.Detail",
+            MsgWhy::Kind,
+        ),
+        (
+            "\"Ac\":{\"Detail\":[{\"name\":\"ACNUM\",\"value\":\"1\"},{\"name\":\"IFSC\",\"value\":\"AAAA0000000\"}],\"addrType\":\"ACCOUNT\"}",
+            "\"Ac\":{\"Detail\":[],\"addrType\":\"ACCOUNT\"}",
+            "RespAuthDetails.Payer.Ac.Detail",
+            MsgWhy::Count,
+        ),
+        (
+            "\"Ac\":{\"Detail\":[{\"name\":\"ACNUM\",\"value\":\"1\"},{\"name\":\"IFSC\",\"value\":\"AAAA0000000\"}],\"addrType\":\"ACCOUNT\"}",
+            "\"Ac\":{\"Detail\":[{\"name\":\"ACNUM\",\"value\":\"1\"},{\"name\":\"IFSC\",\"value\":\"AAAA0000000\"},5],\"addrType\":\"ACCOUNT\"}",
+            "RespAuthDetails.Payer.Ac.Detail[2]",
+            MsgWhy::Kind,
+        ),
+        (
+            "\"Ac\":{\"Detail\":[{\"name\":\"ACNUM\",\"value\":\"1\"},{\"name\":\"IFSC\",\"value\":\"AAAA0000000\"}],\"addrType\":\"ACCOUNT\"}",
+            "\"Ac\":{\"Detail\":[{\"value\":\"x\"},{\"name\":\"ACNUM\",\"value\":\"1\"},{\"name\":\"IFSC\",\"value\":\"AAAA0000000\"}],\"addrType\":\"ACCOUNT\"}",
+            "RespAuthDetails.Payer.Ac.Detail[0].name",
+            MsgWhy::Missing,
+        ),
+    ] {
+        let input = edited(alloc, ANSWER, old, new)?;
+        assert!(rt; is_bad(&input, path, why), "{new}");
+    }
+    Ok(())
+}
+
+#[test]
+fn answer_faults_6(rt: HostRuntime) -> Result<(), Fail> {
+    let alloc = rt.alloc();
+    for (old, new, path, why) in [
+        (
+            "\"Ac\":{\"Detail\":[{\"name\":\"ACNUM\",\"value\":\"1\"},{\"name\":\"IFSC\",\"value\":\"AAAA0000000\"}],\"addrType\":\"ACCOUNT\"}",
+            "\"Ac\":{\"Detail\":[{\"name\":1,\"value\":\"x\"},{\"name\":\"ACNUM\",\"value\":\"1\"},{\"name\":\"IFSC\",\"value\":\"AAAA0000000\"}],\"addrType\":\"ACCOUNT\"}",
+            "RespAuthDetails.Payer.Ac.Detail[0].name",
+            MsgWhy::Kind,
+        ),
+        (
+            "\"Ac\":{\"Detail\":[{\"name\":\"ACNUM\",\"value\":\"1\"},{\"name\":\"IFSC\",\"value\":\"AAAA0000000\"}],\"addrType\":\"ACCOUNT\"}",
+            "\"Ac\":{\"Detail\":[{\"name\":\"ACNUM\",\"value\":\"1\"},{\"name\":\"IFSC\",\"value\":\"AAAA0000000\"},{\"name\":\"x\"}],\"addrType\":\"ACCOUNT\"}",
+            "RespAuthDetails.Payer.Ac.Detail[2].value",
+            MsgWhy::Missing,
+        ),
+        (
+            "\"Ac\":{\"Detail\":[{\"name\":\"ACNUM\",\"value\":\"1\"},{\"name\":\"IFSC\",\"value\":\"AAAA0000000\"}],\"addrType\":\"ACCOUNT\"}",
+            "\"Ac\":{\"Detail\":[{\"name\":\"ACNUM\",\"value\":\"1\"},{\"name\":\"IFSC\",\"value\":\"AAAA0000000\"},{\"name\":\"x\",\"value\":[]}],\"addrType\":\"ACCOUNT\"}",
+            "RespAuthDetails.Payer.Ac.Detail[2].value",
+            MsgWhy::Kind,
+        ),
+        (
+            "\"Ac\":{\"Detail\":[{\"name\":\"ACNUM\",\"value\":\"1\"},{\"name\":\"IFSC\",\"value\":\"AAAA0000000\"}],\"addrType\":\"ACCOUNT\"}",
+            "\"Ac\":{\"Detail\":[{\"name\":\"IFSC\",\"value\":\"AAAA0000000\"}],\"addrType\":\"ACCOUNT\"}",
+            "RespAuthDetails.Payer.Ac.Detail",
+            MsgWhy::Count,
+        ),
+        (
+            "\"Ac\":{\"Detail\":[{\"name\":\"ACNUM\",\"value\":\"1\"},{\"name\":\"IFSC\",\"value\":\"AAAA0000000\"}],\"addrType\":\"ACCOUNT\"}",
+            "\"Ac\":{\"Detail\":[{\"name\":\"ACNUM\",\"value\":\"1\"},{\"name\":\"IFSC\",\"value\":\"AAAA0000000\"},{\"name\":\"IFSC\",\"value\":\"AAAA0000000\"}],\"addrType\":\"ACCOUNT\"}",
+            "RespAuthDetails.Payer.Ac.Detail",
+            MsgWhy::Count,
+        ),
+        (
+            "\"Ac\":{\"Detail\":[{\"name\":\"ACNUM\",\"value\":\"1\"},{\"name\":\"IFSC\",\"value\":\"AAAA0000000\"}],\"addrType\":\"ACCOUNT\"}",
+            "\"Ac\":{\"Detail\":[{\"name\":\"ACNUM\",\"value\":\"1\"},{\"name\":\"IFSC\",\"value\":\"AAAA0000000\"},{\"name\":\"ACNUM\",\"value\":\"1\"}],\"addrType\":\"ACCOUNT\"}",
+            "RespAuthDetails.Payer.Ac.Detail",
+            MsgWhy::Count,
+        ),
+        (
+            "\"Ac\":{\"Detail\":[{\"name\":\"ACNUM\",\"value\":\"1\"},{\"name\":\"IFSC\",\"value\":\"AAAA0000000\"}],\"addrType\":\"ACCOUNT\"}",
+            "\"Ac\":{\"Detail\":[{\"name\":\"ACNUM\",\"value\":\"1-1\"},{\"name\":\"IFSC\",\"value\":\"AAAA0000000\"}],\"addrType\":\"ACCOUNT\"}",
+            "RespAuthDetails.Payer.Ac.Detail[0].value",
+            MsgWhy::Value,
+        ),
+        (
+            "\"Ac\":{\"Detail\":[{\"name\":\"ACNUM\",\"value\":\"1\"},{\"name\":\"IFSC\",\"value\":\"AAAA0000000\"}],\"addrType\":\"ACCOUNT\"}",
+            "\"Ac\":{\"Detail\":[{\"name\":\"ACNUM\",\"value\":\"1\"},{\"name\":\"IFSC\",\"value\":\"AAAa0000000\"}],\"addrType\":\"ACCOUNT\"}",
+            "RespAuthDetails.Payer.Ac.Detail[1].value",
+            MsgWhy::Value,
+        ),
+        (
+            "\"Ac\":{\"Detail\":[{\"name\":\"ACNUM\",\"value\":\"1\"},{\"name\":\"IFSC\",\"value\":\"AAAA0000000\"}],\"addrType\":\"ACCOUNT\"}",
+            "\"Ac\":{\"Detail\":[{\"name\":\"ACNUM\",\"value\":\"\"},{\"name\":\"IFSC\",\"value\":\"AAAA000000\"}],\"addrType\":\"ACCOUNT\"}",
+            "RespAuthDetails.Payer.Ac.Detail[1].value",
+            MsgWhy::Value,
+        ),
+        (
+            "\"Payees\":{\"Payee\":[{\"Ac\":{\"Detail\":[{\"name\":\"IFSC\",\"value\":\"BBBB0000000\"},{\"name\":\"ACNUM\",\"value\":\"2\"}],\"addrType\":\"ACCOUNT\"}}]}",
+            "\"Payees\":null",
+            "RespAuthDetails.Payees",
+            MsgWhy::Kind,
+        ),
+        (
+            "\"Payees\":{\"Payee\":[{\"Ac\":{\"Detail\":[{\"name\":\"IFSC\",\"value\":\"BBBB0000000\"},{\"name\":\"ACNUM\",\"value\":\"2\"}],\"addrType\":\"ACCOUNT\"}}]}",
+            "\"Payees\":{}",
+            "RespAuthDetails.Payees.Payee",
+            MsgWhy::Missing,
+        ),
+        (
+            "\"Payees\":{\"Payee\":[{\"Ac\":{\"Detail\":[{\"name\":\"IFSC\",\"value\":\"BBBB0000000\"},{\"name\":\"ACNUM\",\"value\":\"2\"}],\"addrType\":\"ACCOUNT\"}}]}",
+            "\"Payees\":{\"Payee\":\"\"}",
+            "RespAuthDetails.Payees.Payee",
+            MsgWhy::Kind,
+        ),
+    ] {
+        let input = edited(alloc, ANSWER, old, new)?;
+        assert!(rt; is_bad(&input, path, why), "{new}");
+    }
+    Ok(())
+}
+
+#[test]
+fn answer_faults_7(rt: HostRuntime) -> Result<(), Fail> {
+    let alloc = rt.alloc();
+    for (old, new, path, why) in [
+        (
+            "\"Payees\":{\"Payee\":[{\"Ac\":{\"Detail\":[{\"name\":\"IFSC\",\"value\":\"BBBB0000000\"},{\"name\":\"ACNUM\",\"value\":\"2\"}],\"addrType\":\"ACCOUNT\"}}]}",
+            "\"Payees\":{\"Payee\":[]}",
+            "RespAuthDetails.Payees.Payee",
+            MsgWhy::Count,
+        ),
+        (
+            "\"Payees\":{\"Payee\":[{\"Ac\":{\"Detail\":[{\"name\":\"IFSC\",\"value\":\"BBBB0000000\"},{\"name\":\"ACNUM\",\"value\":\"2\"}],\"addrType\":\"ACCOUNT\"}}]}",
+            "\"Payees\":{\"Payee\":[{},{}]}",
+            "RespAuthDetails.Payees.Payee",
+            MsgWhy::Count,
+        ),
+        (
+            "\"Payees\":{\"Payee\":[{\"Ac\":{\"Detail\":[{\"name\":\"IFSC\",\"value\":\"BBBB0000000\"},{\"name\":\"ACNUM\",\"value\":\"2\"}],\"addrType\":\"ACCOUNT\"}}]}",
+            "\"Payees\":{\"Payee\":[[]]}",
+            "RespAuthDetails.Payees.Payee[0]",
+            MsgWhy::Kind,
+        ),
+        (
+            "\"Ac\":{\"Detail\":[{\"name\":\"IFSC\",\"value\":\"BBBB0000000\"},{\"name\":\"ACNUM\",\"value\":\"2\"}],\"addrType\":\"ACCOUNT\"}",
+            "\"Ac\":7",
+            "RespAuthDetails.Payees.Payee[0].Ac",
+            MsgWhy::Kind,
+        ),
+        (
+            "\"Ac\":{\"Detail\":[{\"name\":\"IFSC\",\"value\":\"BBBB0000000\"},{\"name\":\"ACNUM\",\"value\":\"2\"}],\"addrType\":\"ACCOUNT\"}",
+            "\"Ac\":null",
+            "RespAuthDetails.Payees.Payee[0].Ac",
+            MsgWhy::Kind,
+        ),
+        (
+            "\"Ac\":{\"Detail\":[{\"name\":\"IFSC\",\"value\":\"BBBB0000000\"},{\"name\":\"ACNUM\",\"value\":\"2\"}],\"addrType\":\"ACCOUNT\"}",
+            "\"Ac\":{\"addrType\":\"ACCOUNT\"}",
+            "RespAuthDetails.Payees.Payee[0].Ac.Detail",
+            MsgWhy::Missing,
+        ),
+        (
+            "\"Ac\":{\"Detail\":[{\"name\":\"IFSC\",\"value\":\"BBBB0000000\"},{\"name\":\"ACNUM\",\"value\":\"2\"}],\"addrType\":\"ACCOUNT\"}",
+            "\"Ac\":{\"Detail\":{},\"addrType\":\"ACCOUNT\"}",
+            "RespAuthDetails.Payees.Payee[0].Ac.Detail",
+            MsgWhy::Kind,
+        ),
+        (
+            "\"Ac\":{\"Detail\":[{\"name\":\"IFSC\",\"value\":\"BBBB0000000\"},{\"name\":\"ACNUM\",\"value\":\"2\"}],\"addrType\":\"ACCOUNT\"}",
+            "\"Ac\":{\"Detail\":[],\"addrType\":\"ACCOUNT\"}",
+            "RespAuthDetails.Payees.Payee[0].Ac.Detail",
+            MsgWhy::Count,
+        ),
+        (
+            "\"Ac\":{\"Detail\":[{\"name\":\"IFSC\",\"value\":\"BBBB0000000\"},{\"name\":\"ACNUM\",\"value\":\"2\"}],\"addrType\":\"ACCOUNT\"}",
+            "\"Ac\":{\"Detail\":[{\"name\":\"IFSC\",\"value\":\"BBBB0000000\"},{\"name\":\"ACNUM\",\"value\":\"2\"},5],\"addrType\":\"ACCOUNT\"}",
+            "RespAuthDetails.Payees.Payee[0].Ac.Detail[2]",
+            MsgWhy::Kind,
+        ),
+        (
+            "\"Ac\":{\"Detail\":[{\"name\":\"IFSC\",\"value\":\"BBBB0000000\"},{\"name\":\"ACNUM\",\"value\":\"2\"}],\"addrType\":\"ACCOUNT\"}",
+            "\"Ac\":{\"Detail\":[{\"value\":\"x\"},{\"name\":\"IFSC\",\"value\":\"BBBB0000000\"},{\"name\":\"ACNUM\",\"value\":\"2\"}],\"addrType\":\"ACCOUNT\"}",
+            "RespAuthDetails.Payees.Payee[0].Ac.Detail[0].name",
+            MsgWhy::Missing,
+        ),
+        (
+            "\"Ac\":{\"Detail\":[{\"name\":\"IFSC\",\"value\":\"BBBB0000000\"},{\"name\":\"ACNUM\",\"value\":\"2\"}],\"addrType\":\"ACCOUNT\"}",
+            "\"Ac\":{\"Detail\":[{\"name\":1,\"value\":\"x\"},{\"name\":\"IFSC\",\"value\":\"BBBB0000000\"},{\"name\":\"ACNUM\",\"value\":\"2\"}],\"addrType\":\"ACCOUNT\"}",
+            "RespAuthDetails.Payees.Payee[0].Ac.Detail[0].name",
+            MsgWhy::Kind,
+        ),
+        (
+            "\"Ac\":{\"Detail\":[{\"name\":\"IFSC\",\"value\":\"BBBB0000000\"},{\"name\":\"ACNUM\",\"value\":\"2\"}],\"addrType\":\"ACCOUNT\"}",
+            "\"Ac\":{\"Detail\":[{\"name\":\"IFSC\",\"value\":\"BBBB0000000\"},{\"name\":\"ACNUM\",\"value\":\"2\"},{\"name\":\"x\"}],\"addrType\":\"ACCOUNT\"}",
+            "RespAuthDetails.Payees.Payee[0].Ac.Detail[2].value",
+            MsgWhy::Missing,
+        ),
+    ] {
+        let input = edited(alloc, ANSWER, old, new)?;
+        assert!(rt; is_bad(&input, path, why), "{new}");
+    }
+    Ok(())
+}
+
+#[test]
+fn answer_faults_8(rt: HostRuntime) -> Result<(), Fail> {
+    let alloc = rt.alloc();
+    for (old, new, path, why) in [
+        (
+            "\"Ac\":{\"Detail\":[{\"name\":\"IFSC\",\"value\":\"BBBB0000000\"},{\"name\":\"ACNUM\",\"value\":\"2\"}],\"addrType\":\"ACCOUNT\"}",
+            "\"Ac\":{\"Detail\":[{\"name\":\"IFSC\",\"value\":\"BBBB0000000\"},{\"name\":\"ACNUM\",\"value\":\"2\"},{\"name\":\"x\",\"value\":[]}],\"addrType\":\"ACCOUNT\"}",
+            "RespAuthDetails.Payees.Payee[0].Ac.Detail[2].value",
+            MsgWhy::Kind,
+        ),
+        (
+            "\"Ac\":{\"Detail\":[{\"name\":\"IFSC\",\"value\":\"BBBB0000000\"},{\"name\":\"ACNUM\",\"value\":\"2\"}],\"addrType\":\"ACCOUNT\"}",
+            "\"Ac\":{\"Detail\":[{\"name\":\"IFSC\",\"value\":\"AAAA0000000\"}],\"addrType\":\"ACCOUNT\"}",
+            "RespAuthDetails.Payees.Payee[0].Ac.Detail",
+            MsgWhy::Count,
+        ),
+        (
+            "\"Ac\":{\"Detail\":[{\"name\":\"IFSC\",\"value\":\"BBBB0000000\"},{\"name\":\"ACNUM\",\"value\":\"2\"}],\"addrType\":\"ACCOUNT\"}",
+            "\"Ac\":{\"Detail\":[{\"name\":\"IFSC\",\"value\":\"BBBB0000000\"},{\"name\":\"ACNUM\",\"value\":\"2\"},{\"name\":\"IFSC\",\"value\":\"AAAA0000000\"}],\"addrType\":\"ACCOUNT\"}",
+            "RespAuthDetails.Payees.Payee[0].Ac.Detail",
+            MsgWhy::Count,
+        ),
+        (
+            "\"Ac\":{\"Detail\":[{\"name\":\"IFSC\",\"value\":\"BBBB0000000\"},{\"name\":\"ACNUM\",\"value\":\"2\"}],\"addrType\":\"ACCOUNT\"}",
+            "\"Ac\":{\"Detail\":[{\"name\":\"IFSC\",\"value\":\"BBBB0000000\"},{\"name\":\"ACNUM\",\"value\":\"2\"},{\"name\":\"ACNUM\",\"value\":\"1\"}],\"addrType\":\"ACCOUNT\"}",
+            "RespAuthDetails.Payees.Payee[0].Ac.Detail",
+            MsgWhy::Count,
+        ),
+        (
+            "\"Ac\":{\"Detail\":[{\"name\":\"IFSC\",\"value\":\"BBBB0000000\"},{\"name\":\"ACNUM\",\"value\":\"2\"}],\"addrType\":\"ACCOUNT\"}",
+            "\"Ac\":{\"Detail\":[{\"name\":\"ACNUM\",\"value\":\"1-1\"},{\"name\":\"IFSC\",\"value\":\"AAAA0000000\"}],\"addrType\":\"ACCOUNT\"}",
+            "RespAuthDetails.Payees.Payee[0].Ac.Detail[0].value",
+            MsgWhy::Value,
+        ),
+        (
+            "\"Ac\":{\"Detail\":[{\"name\":\"IFSC\",\"value\":\"BBBB0000000\"},{\"name\":\"ACNUM\",\"value\":\"2\"}],\"addrType\":\"ACCOUNT\"}",
+            "\"Ac\":{\"Detail\":[{\"name\":\"ACNUM\",\"value\":\"1\"},{\"name\":\"IFSC\",\"value\":\"AAAa0000000\"}],\"addrType\":\"ACCOUNT\"}",
+            "RespAuthDetails.Payees.Payee[0].Ac.Detail[1].value",
+            MsgWhy::Value,
+        ),
+        (
+            "\"Ac\":{\"Detail\":[{\"name\":\"IFSC\",\"value\":\"BBBB0000000\"},{\"name\":\"ACNUM\",\"value\":\"2\"}],\"addrType\":\"ACCOUNT\"}",
+            "\"Ac\":{\"Detail\":[{\"name\":\"ACNUM\",\"value\":\"\"},{\"name\":\"IFSC\",\"value\":\"AAAA000000\"}],\"addrType\":\"ACCOUNT\"}",
+            "RespAuthDetails.Payees.Payee[0].Ac.Detail[1].value",
+            MsgWhy::Value,
+        ),
+    ] {
+        let input = edited(alloc, ANSWER, old, new)?;
+        assert!(rt; is_bad(&input, path, why), "{new}");
+    }
+    Ok(())
+}

@@ -1,0 +1,485 @@
+//! The first faults of a payment: its parties.
+use super::{PAY, edited, is_bad};
+use std::test::Fail;
+use upi_base::MsgWhy;
+
+#[test]
+fn payment_faults_7(rt: HostRuntime) -> Result<(), Fail> {
+    let alloc = rt.alloc();
+    for (old, new, path, why) in [
+        (
+            "\"Amount\":{\"curr\":\"INR\",\"value\":\"30.00\"}",
+            "\"x\":1",
+            "ReqPay.Payer.Amount",
+            MsgWhy::Missing,
+        ),
+        (
+            "\"Amount\":{\"curr\":\"INR\",\"value\":\"30.00\"}",
+            "\"Amount\":\"30.00\"",
+            "ReqPay.Payer.Amount",
+            MsgWhy::Kind,
+        ),
+        (
+            "\"Amount\":{\"curr\":\"INR\",\"value\":\"30.00\"}",
+            "\"Amount\":{\"value\":\"30.00\"}",
+            "ReqPay.Payer.Amount.curr",
+            MsgWhy::Missing,
+        ),
+        (
+            "\"Amount\":{\"curr\":\"INR\",\"value\":\"30.00\"}",
+            "\"Amount\":{\"curr\":{},\"value\":\"30.00\"}",
+            "ReqPay.Payer.Amount.curr",
+            MsgWhy::Kind,
+        ),
+        (
+            "\"Amount\":{\"curr\":\"INR\",\"value\":\"30.00\"}",
+            "\"Amount\":{\"curr\":\"inr\",\"value\":\"30.00\"}",
+            "ReqPay.Payer.Amount.curr",
+            MsgWhy::Value,
+        ),
+        (
+            "\"Amount\":{\"curr\":\"INR\",\"value\":\"30.00\"}",
+            "\"Amount\":{\"curr\":\"INR\"}",
+            "ReqPay.Payer.Amount.value",
+            MsgWhy::Missing,
+        ),
+        (
+            "\"Amount\":{\"curr\":\"INR\",\"value\":\"30.00\"}",
+            "\"Amount\":{\"curr\":\"INR\",\"value\":30.00}",
+            "ReqPay.Payer.Amount.value",
+            MsgWhy::Kind,
+        ),
+        (
+            "\"Amount\":{\"curr\":\"INR\",\"value\":\"30.00\"}",
+            "\"Amount\":{\"curr\":\"INR\",\"value\":\"30.000\"}",
+            "ReqPay.Payer.Amount.value",
+            MsgWhy::Value,
+        ),
+        (
+            "\"Amount\":{\"curr\":\"INR\",\"value\":\"30.00\"}",
+            "\"Amount\":{\"curr\":\"INR\",\"value\":\"\"}",
+            "ReqPay.Payer.Amount.value",
+            MsgWhy::Value,
+        ),
+        (
+            "\"Amount\":{\"curr\":\"INR\",\"value\":\"30.00\"}",
+            "\"Amount\":{\"curr\":\"INR\",\"value\":\"-1\"}",
+            "ReqPay.Payer.Amount.value",
+            MsgWhy::Value,
+        ),
+        (
+            "\"Amount\":{\"curr\":\"INR\",\"value\":\"30.00\"}",
+            "\"Amount\":{\"curr\":\"INR\",\"value\":\"1e3\"}",
+            "ReqPay.Payer.Amount.value",
+            MsgWhy::Value,
+        ),
+        (
+            "\"Amount\":{\"curr\":\"INR\",\"value\":\"30.00\"}",
+            "\"Amount\":{\"curr\":\"INR\",\"value\":\"10000000000000.01\"}",
+            "ReqPay.Payer.Amount.value",
+            MsgWhy::Value,
+        ),
+    ] {
+        let input = edited(alloc, PAY, old, new)?;
+        assert!(rt; is_bad(&input, path, why), "{new}");
+    }
+    Ok(())
+}
+
+#[test]
+fn payment_faults_8(rt: HostRuntime) -> Result<(), Fail> {
+    let alloc = rt.alloc();
+    for (old, new, path, why) in [
+        (
+            "\"Amount\":{\"curr\":\"INR\",\"value\":\"30.00\"}",
+            "\"Amount\":{\"curr\":\"INR\",\"value\":\".5\"}",
+            "ReqPay.Payer.Amount.value",
+            MsgWhy::Value,
+        ),
+        (
+            "\"Amount\":{\"curr\":\"INR\",\"value\":\"30.00\"}",
+            "\"Amount\":{\"curr\":\"INR\",\"value\":\"30.\"}",
+            "ReqPay.Payer.Amount.value",
+            MsgWhy::Value,
+        ),
+        (
+            "\"Ac\":{\"Detail\":[{\"name\":\"IFSC\",\"value\":\"AAAA0000000\"},{\"name\":\"ACNUM\",\"value\":\"1\"}],\"addrType\":\"ACCOUNT\"}",
+            "\"Ac\":7",
+            "ReqPay.Payer.Ac",
+            MsgWhy::Kind,
+        ),
+        (
+            "\"Ac\":{\"Detail\":[{\"name\":\"IFSC\",\"value\":\"AAAA0000000\"},{\"name\":\"ACNUM\",\"value\":\"1\"}],\"addrType\":\"ACCOUNT\"}",
+            "\"Ac\":null",
+            "ReqPay.Payer.Ac",
+            MsgWhy::Kind,
+        ),
+        (
+            "\"Ac\":{\"Detail\":[{\"name\":\"IFSC\",\"value\":\"AAAA0000000\"},{\"name\":\"ACNUM\",\"value\":\"1\"}],\"addrType\":\"ACCOUNT\"}",
+            "\"Ac\":{\"addrType\":\"ACCOUNT\"}",
+            "ReqPay.Payer.Ac.Detail",
+            MsgWhy::Missing,
+        ),
+        (
+            "\"Ac\":{\"Detail\":[{\"name\":\"IFSC\",\"value\":\"AAAA0000000\"},{\"name\":\"ACNUM\",\"value\":\"1\"}],\"addrType\":\"ACCOUNT\"}",
+            "\"Ac\":{\"Detail\":{},\"addrType\":\"ACCOUNT\"}",
+            "ReqPay.Payer.Ac.Detail",
+            MsgWhy::Kind,
+        ),
+        (
+            "\"Ac\":{\"Detail\":[{\"name\":\"IFSC\",\"value\":\"AAAA0000000\"},{\"name\":\"ACNUM\",\"value\":\"1\"}],\"addrType\":\"ACCOUNT\"}",
+            "\"Ac\":{\"Detail\":[],\"addrType\":\"ACCOUNT\"}",
+            "ReqPay.Payer.Ac.Detail",
+            MsgWhy::Count,
+        ),
+        (
+            "\"Ac\":{\"Detail\":[{\"name\":\"IFSC\",\"value\":\"AAAA0000000\"},{\"name\":\"ACNUM\",\"value\":\"1\"}],\"addrType\":\"ACCOUNT\"}",
+            "\"Ac\":{\"Detail\":[{\"name\":\"IFSC\",\"value\":\"AAAA0000000\"},{\"name\":\"ACNUM\",\"value\":\"1\"},5],\"addrType\":\"ACCOUNT\"}",
+            "ReqPay.Payer.Ac.Detail[2]",
+            MsgWhy::Kind,
+        ),
+        (
+            "\"Ac\":{\"Detail\":[{\"name\":\"IFSC\",\"value\":\"AAAA0000000\"},{\"name\":\"ACNUM\",\"value\":\"1\"}],\"addrType\":\"ACCOUNT\"}",
+            "\"Ac\":{\"Detail\":[{\"value\":\"x\"},{\"name\":\"IFSC\",\"value\":\"AAAA0000000\"},{\"name\":\"ACNUM\",\"value\":\"1\"}],\"addrType\":\"ACCOUNT\"}",
+            "ReqPay.Payer.Ac.Detail[0].name",
+            MsgWhy::Missing,
+        ),
+        (
+            "\"Ac\":{\"Detail\":[{\"name\":\"IFSC\",\"value\":\"AAAA0000000\"},{\"name\":\"ACNUM\",\"value\":\"1\"}],\"addrType\":\"ACCOUNT\"}",
+            "\"Ac\":{\"Detail\":[{\"name\":1,\"value\":\"x\"},{\"name\":\"IFSC\",\"value\":\"AAAA0000000\"},{\"name\":\"ACNUM\",\"value\":\"1\"}],\"addrType\":\"ACCOUNT\"}",
+            "ReqPay.Payer.Ac.Detail[0].name",
+            MsgWhy::Kind,
+        ),
+        (
+            "\"Ac\":{\"Detail\":[{\"name\":\"IFSC\",\"value\":\"AAAA0000000\"},{\"name\":\"ACNUM\",\"value\":\"1\"}],\"addrType\":\"ACCOUNT\"}",
+            "\"Ac\":{\"Detail\":[{\"name\":\"IFSC\",\"value\":\"AAAA0000000\"},{\"name\":\"ACNUM\",\"value\":\"1\"},{\"name\":\"x\"}],\"addrType\":\"ACCOUNT\"}",
+            "ReqPay.Payer.Ac.Detail[2].value",
+            MsgWhy::Missing,
+        ),
+        (
+            "\"Ac\":{\"Detail\":[{\"name\":\"IFSC\",\"value\":\"AAAA0000000\"},{\"name\":\"ACNUM\",\"value\":\"1\"}],\"addrType\":\"ACCOUNT\"}",
+            "\"Ac\":{\"Detail\":[{\"name\":\"IFSC\",\"value\":\"AAAA0000000\"},{\"name\":\"ACNUM\",\"value\":\"1\"},{\"name\":\"x\",\"value\":[]}],\"addrType\":\"ACCOUNT\"}",
+            "ReqPay.Payer.Ac.Detail[2].value",
+            MsgWhy::Kind,
+        ),
+    ] {
+        let input = edited(alloc, PAY, old, new)?;
+        assert!(rt; is_bad(&input, path, why), "{new}");
+    }
+    Ok(())
+}
+
+#[test]
+fn payment_faults_9(rt: HostRuntime) -> Result<(), Fail> {
+    let alloc = rt.alloc();
+    for (old, new, path, why) in [
+        (
+            "\"Ac\":{\"Detail\":[{\"name\":\"IFSC\",\"value\":\"AAAA0000000\"},{\"name\":\"ACNUM\",\"value\":\"1\"}],\"addrType\":\"ACCOUNT\"}",
+            "\"Ac\":{\"Detail\":[{\"name\":\"IFSC\",\"value\":\"AAAA0000000\"}],\"addrType\":\"ACCOUNT\"}",
+            "ReqPay.Payer.Ac.Detail",
+            MsgWhy::Count,
+        ),
+        (
+            "\"Ac\":{\"Detail\":[{\"name\":\"IFSC\",\"value\":\"AAAA0000000\"},{\"name\":\"ACNUM\",\"value\":\"1\"}],\"addrType\":\"ACCOUNT\"}",
+            "\"Ac\":{\"Detail\":[{\"name\":\"IFSC\",\"value\":\"AAAA0000000\"},{\"name\":\"ACNUM\",\"value\":\"1\"},{\"name\":\"IFSC\",\"value\":\"AAAA0000000\"}],\"addrType\":\"ACCOUNT\"}",
+            "ReqPay.Payer.Ac.Detail",
+            MsgWhy::Count,
+        ),
+        (
+            "\"Ac\":{\"Detail\":[{\"name\":\"IFSC\",\"value\":\"AAAA0000000\"},{\"name\":\"ACNUM\",\"value\":\"1\"}],\"addrType\":\"ACCOUNT\"}",
+            "\"Ac\":{\"Detail\":[{\"name\":\"IFSC\",\"value\":\"AAAA0000000\"},{\"name\":\"ACNUM\",\"value\":\"1\"},{\"name\":\"ACNUM\",\"value\":\"1\"}],\"addrType\":\"ACCOUNT\"}",
+            "ReqPay.Payer.Ac.Detail",
+            MsgWhy::Count,
+        ),
+        (
+            "\"Ac\":{\"Detail\":[{\"name\":\"IFSC\",\"value\":\"AAAA0000000\"},{\"name\":\"ACNUM\",\"value\":\"1\"}],\"addrType\":\"ACCOUNT\"}",
+            "\"Ac\":{\"Detail\":[{\"name\":\"ACNUM\",\"value\":\"1-1\"},{\"name\":\"IFSC\",\"value\":\"AAAA0000000\"}],\"addrType\":\"ACCOUNT\"}",
+            "ReqPay.Payer.Ac.Detail[0].value",
+            MsgWhy::Value,
+        ),
+        (
+            "\"Ac\":{\"Detail\":[{\"name\":\"IFSC\",\"value\":\"AAAA0000000\"},{\"name\":\"ACNUM\",\"value\":\"1\"}],\"addrType\":\"ACCOUNT\"}",
+            "\"Ac\":{\"Detail\":[{\"name\":\"ACNUM\",\"value\":\"1\"},{\"name\":\"IFSC\",\"value\":\"AAAa0000000\"}],\"addrType\":\"ACCOUNT\"}",
+            "ReqPay.Payer.Ac.Detail[1].value",
+            MsgWhy::Value,
+        ),
+        (
+            "\"Ac\":{\"Detail\":[{\"name\":\"IFSC\",\"value\":\"AAAA0000000\"},{\"name\":\"ACNUM\",\"value\":\"1\"}],\"addrType\":\"ACCOUNT\"}",
+            "\"Ac\":{\"Detail\":[{\"name\":\"ACNUM\",\"value\":\"\"},{\"name\":\"IFSC\",\"value\":\"AAAA000000\"}],\"addrType\":\"ACCOUNT\"}",
+            "ReqPay.Payer.Ac.Detail[1].value",
+            MsgWhy::Value,
+        ),
+        ("\"Payees\":{", "\"x\":{", "ReqPay.Payees", MsgWhy::Missing),
+        (
+            "\"Payees\":{\"Payee\":[{\"Ac\":{\"Detail\":[{\"name\":\"IFSC\",\"value\":\"BBBB0000000\"},{\"name\":\"ACNUM\",\"value\":\"2\"}],\"addrType\":\"ACCOUNT\"},\"Amount\":{\"curr\":\"INR\",\"value\":\"30\"},\"addr\":\"bob@beta\"}]}",
+            "\"Payees\":[]",
+            "ReqPay.Payees",
+            MsgWhy::Kind,
+        ),
+        (
+            "\"Payees\":{\"Payee\":[{\"Ac\":{\"Detail\":[{\"name\":\"IFSC\",\"value\":\"BBBB0000000\"},{\"name\":\"ACNUM\",\"value\":\"2\"}],\"addrType\":\"ACCOUNT\"},\"Amount\":{\"curr\":\"INR\",\"value\":\"30\"},\"addr\":\"bob@beta\"}]}",
+            "\"Payees\":{}",
+            "ReqPay.Payees.Payee",
+            MsgWhy::Missing,
+        ),
+        (
+            "\"Payees\":{\"Payee\":[{\"Ac\":{\"Detail\":[{\"name\":\"IFSC\",\"value\":\"BBBB0000000\"},{\"name\":\"ACNUM\",\"value\":\"2\"}],\"addrType\":\"ACCOUNT\"},\"Amount\":{\"curr\":\"INR\",\"value\":\"30\"},\"addr\":\"bob@beta\"}]}",
+            "\"Payees\":{\"Payee\":{}}",
+            "ReqPay.Payees.Payee",
+            MsgWhy::Kind,
+        ),
+        (
+            "\"Payees\":{\"Payee\":[{\"Ac\":{\"Detail\":[{\"name\":\"IFSC\",\"value\":\"BBBB0000000\"},{\"name\":\"ACNUM\",\"value\":\"2\"}],\"addrType\":\"ACCOUNT\"},\"Amount\":{\"curr\":\"INR\",\"value\":\"30\"},\"addr\":\"bob@beta\"}]}",
+            "\"Payees\":{\"Payee\":[]}",
+            "ReqPay.Payees.Payee",
+            MsgWhy::Count,
+        ),
+        (
+            "\"Payees\":{\"Payee\":[{\"Ac\":{\"Detail\":[{\"name\":\"IFSC\",\"value\":\"BBBB0000000\"},{\"name\":\"ACNUM\",\"value\":\"2\"}],\"addrType\":\"ACCOUNT\"},\"Amount\":{\"curr\":\"INR\",\"value\":\"30\"},\"addr\":\"bob@beta\"}]}",
+            "\"Payees\":{\"Payee\":[1,2]}",
+            "ReqPay.Payees.Payee",
+            MsgWhy::Count,
+        ),
+    ] {
+        let input = edited(alloc, PAY, old, new)?;
+        assert!(rt; is_bad(&input, path, why), "{new}");
+    }
+    Ok(())
+}
+
+#[test]
+fn payment_faults_10(rt: HostRuntime) -> Result<(), Fail> {
+    let alloc = rt.alloc();
+    for (old, new, path, why) in [
+        (
+            "\"Payees\":{\"Payee\":[{\"Ac\":{\"Detail\":[{\"name\":\"IFSC\",\"value\":\"BBBB0000000\"},{\"name\":\"ACNUM\",\"value\":\"2\"}],\"addrType\":\"ACCOUNT\"},\"Amount\":{\"curr\":\"INR\",\"value\":\"30\"},\"addr\":\"bob@beta\"}]}",
+            "\"Payees\":{\"Payee\":[1]}",
+            "ReqPay.Payees.Payee[0]",
+            MsgWhy::Kind,
+        ),
+        (
+            "\"addr\":\"bob@beta\"",
+            "\"x\":1",
+            "ReqPay.Payees.Payee[0].addr",
+            MsgWhy::Missing,
+        ),
+        (
+            "\"addr\":\"bob@beta\"",
+            "\"addr\":[]",
+            "ReqPay.Payees.Payee[0].addr",
+            MsgWhy::Kind,
+        ),
+        (
+            "\"addr\":\"bob@beta\"",
+            "\"addr\":\"bob\"",
+            "ReqPay.Payees.Payee[0].addr",
+            MsgWhy::Value,
+        ),
+        (
+            "\"Amount\":{\"curr\":\"INR\",\"value\":\"30\"}",
+            "\"Amount\":\"30.00\"",
+            "ReqPay.Payees.Payee[0].Amount",
+            MsgWhy::Kind,
+        ),
+        (
+            "\"Amount\":{\"curr\":\"INR\",\"value\":\"30\"}",
+            "\"Amount\":{\"value\":\"30\"}",
+            "ReqPay.Payees.Payee[0].Amount.curr",
+            MsgWhy::Missing,
+        ),
+        (
+            "\"Amount\":{\"curr\":\"INR\",\"value\":\"30\"}",
+            "\"Amount\":{\"curr\":{},\"value\":\"30\"}",
+            "ReqPay.Payees.Payee[0].Amount.curr",
+            MsgWhy::Kind,
+        ),
+        (
+            "\"Amount\":{\"curr\":\"INR\",\"value\":\"30\"}",
+            "\"Amount\":{\"curr\":\"inr\",\"value\":\"30\"}",
+            "ReqPay.Payees.Payee[0].Amount.curr",
+            MsgWhy::Value,
+        ),
+        (
+            "\"Amount\":{\"curr\":\"INR\",\"value\":\"30\"}",
+            "\"Amount\":{\"curr\":\"INR\"}",
+            "ReqPay.Payees.Payee[0].Amount.value",
+            MsgWhy::Missing,
+        ),
+        (
+            "\"Amount\":{\"curr\":\"INR\",\"value\":\"30\"}",
+            "\"Amount\":{\"curr\":\"INR\",\"value\":30.00}",
+            "ReqPay.Payees.Payee[0].Amount.value",
+            MsgWhy::Kind,
+        ),
+        (
+            "\"Amount\":{\"curr\":\"INR\",\"value\":\"30\"}",
+            "\"Amount\":{\"curr\":\"INR\",\"value\":\"30.000\"}",
+            "ReqPay.Payees.Payee[0].Amount.value",
+            MsgWhy::Value,
+        ),
+        (
+            "\"Amount\":{\"curr\":\"INR\",\"value\":\"30\"}",
+            "\"Amount\":{\"curr\":\"INR\",\"value\":\"\"}",
+            "ReqPay.Payees.Payee[0].Amount.value",
+            MsgWhy::Value,
+        ),
+    ] {
+        let input = edited(alloc, PAY, old, new)?;
+        assert!(rt; is_bad(&input, path, why), "{new}");
+    }
+    Ok(())
+}
+
+#[test]
+fn payment_faults_11(rt: HostRuntime) -> Result<(), Fail> {
+    let alloc = rt.alloc();
+    for (old, new, path, why) in [
+        (
+            "\"Amount\":{\"curr\":\"INR\",\"value\":\"30\"}",
+            "\"Amount\":{\"curr\":\"INR\",\"value\":\"-1\"}",
+            "ReqPay.Payees.Payee[0].Amount.value",
+            MsgWhy::Value,
+        ),
+        (
+            "\"Amount\":{\"curr\":\"INR\",\"value\":\"30\"}",
+            "\"Amount\":{\"curr\":\"INR\",\"value\":\"1e3\"}",
+            "ReqPay.Payees.Payee[0].Amount.value",
+            MsgWhy::Value,
+        ),
+        (
+            "\"Amount\":{\"curr\":\"INR\",\"value\":\"30\"}",
+            "\"Amount\":{\"curr\":\"INR\",\"value\":\"10000000000000.01\"}",
+            "ReqPay.Payees.Payee[0].Amount.value",
+            MsgWhy::Value,
+        ),
+        (
+            "\"Amount\":{\"curr\":\"INR\",\"value\":\"30\"}",
+            "\"Amount\":{\"curr\":\"INR\",\"value\":\".5\"}",
+            "ReqPay.Payees.Payee[0].Amount.value",
+            MsgWhy::Value,
+        ),
+        (
+            "\"Amount\":{\"curr\":\"INR\",\"value\":\"30\"}",
+            "\"Amount\":{\"curr\":\"INR\",\"value\":\"30.\"}",
+            "ReqPay.Payees.Payee[0].Amount.value",
+            MsgWhy::Value,
+        ),
+        (
+            "\"value\":\"30\"}",
+            "\"value\":\"30.01\"}",
+            "ReqPay.Payees.Payee[0].Amount.value",
+            MsgWhy::Differs,
+        ),
+        (
+            "\"Ac\":{\"Detail\":[{\"name\":\"IFSC\",\"value\":\"BBBB0000000\"},{\"name\":\"ACNUM\",\"value\":\"2\"}],\"addrType\":\"ACCOUNT\"}",
+            "\"Ac\":7",
+            "ReqPay.Payees.Payee[0].Ac",
+            MsgWhy::Kind,
+        ),
+        (
+            "\"Ac\":{\"Detail\":[{\"name\":\"IFSC\",\"value\":\"BBBB0000000\"},{\"name\":\"ACNUM\",\"value\":\"2\"}],\"addrType\":\"ACCOUNT\"}",
+            "\"Ac\":null",
+            "ReqPay.Payees.Payee[0].Ac",
+            MsgWhy::Kind,
+        ),
+        (
+            "\"Ac\":{\"Detail\":[{\"name\":\"IFSC\",\"value\":\"BBBB0000000\"},{\"name\":\"ACNUM\",\"value\":\"2\"}],\"addrType\":\"ACCOUNT\"}",
+            "\"Ac\":{\"addrType\":\"ACCOUNT\"}",
+            "ReqPay.Payees.Payee[0].Ac.Detail",
+            MsgWhy::Missing,
+        ),
+        (
+            "\"Ac\":{\"Detail\":[{\"name\":\"IFSC\",\"value\":\"BBBB0000000\"},{\"name\":\"ACNUM\",\"value\":\"2\"}],\"addrType\":\"ACCOUNT\"}",
+            "\"Ac\":{\"Detail\":{},\"addrType\":\"ACCOUNT\"}",
+            "ReqPay.Payees.Payee[0].Ac.Detail",
+            MsgWhy::Kind,
+        ),
+        (
+            "\"Ac\":{\"Detail\":[{\"name\":\"IFSC\",\"value\":\"BBBB0000000\"},{\"name\":\"ACNUM\",\"value\":\"2\"}],\"addrType\":\"ACCOUNT\"}",
+            "\"Ac\":{\"Detail\":[],\"addrType\":\"ACCOUNT\"}",
+            "ReqPay.Payees.Payee[0].Ac.Detail",
+            MsgWhy::Count,
+        ),
+        (
+            "\"Ac\":{\"Detail\":[{\"name\":\"IFSC\",\"value\":\"BBBB0000000\"},{\"name\":\"ACNUM\",\"value\":\"2\"}],\"addrType\":\"ACCOUNT\"}",
+            "\"Ac\":{\"Detail\":[{\"name\":\"IFSC\",\"value\":\"BBBB0000000\"},{\"name\":\"ACNUM\",\"value\":\"2\"},5],\"addrType\":\"ACCOUNT\"}",
+            "ReqPay.Payees.Payee[0].Ac.Detail[2]",
+            MsgWhy::Kind,
+        ),
+    ] {
+        let input = edited(alloc, PAY, old, new)?;
+        assert!(rt; is_bad(&input, path, why), "{new}");
+    }
+    Ok(())
+}
+
+#[test]
+fn payment_faults_12(rt: HostRuntime) -> Result<(), Fail> {
+    let alloc = rt.alloc();
+    for (old, new, path, why) in [
+        (
+            "\"Ac\":{\"Detail\":[{\"name\":\"IFSC\",\"value\":\"BBBB0000000\"},{\"name\":\"ACNUM\",\"value\":\"2\"}],\"addrType\":\"ACCOUNT\"}",
+            "\"Ac\":{\"Detail\":[{\"value\":\"x\"},{\"name\":\"IFSC\",\"value\":\"BBBB0000000\"},{\"name\":\"ACNUM\",\"value\":\"2\"}],\"addrType\":\"ACCOUNT\"}",
+            "ReqPay.Payees.Payee[0].Ac.Detail[0].name",
+            MsgWhy::Missing,
+        ),
+        (
+            "\"Ac\":{\"Detail\":[{\"name\":\"IFSC\",\"value\":\"BBBB0000000\"},{\"name\":\"ACNUM\",\"value\":\"2\"}],\"addrType\":\"ACCOUNT\"}",
+            "\"Ac\":{\"Detail\":[{\"name\":1,\"value\":\"x\"},{\"name\":\"IFSC\",\"value\":\"BBBB0000000\"},{\"name\":\"ACNUM\",\"value\":\"2\"}],\"addrType\":\"ACCOUNT\"}",
+            "ReqPay.Payees.Payee[0].Ac.Detail[0].name",
+            MsgWhy::Kind,
+        ),
+        (
+            "\"Ac\":{\"Detail\":[{\"name\":\"IFSC\",\"value\":\"BBBB0000000\"},{\"name\":\"ACNUM\",\"value\":\"2\"}],\"addrType\":\"ACCOUNT\"}",
+            "\"Ac\":{\"Detail\":[{\"name\":\"IFSC\",\"value\":\"BBBB0000000\"},{\"name\":\"ACNUM\",\"value\":\"2\"},{\"name\":\"x\"}],\"addrType\":\"ACCOUNT\"}",
+            "ReqPay.Payees.Payee[0].Ac.Detail[2].value",
+            MsgWhy::Missing,
+        ),
+        (
+            "\"Ac\":{\"Detail\":[{\"name\":\"IFSC\",\"value\":\"BBBB0000000\"},{\"name\":\"ACNUM\",\"value\":\"2\"}],\"addrType\":\"ACCOUNT\"}",
+            "\"Ac\":{\"Detail\":[{\"name\":\"IFSC\",\"value\":\"BBBB0000000\"},{\"name\":\"ACNUM\",\"value\":\"2\"},{\"name\":\"x\",\"value\":[]}],\"addrType\":\"ACCOUNT\"}",
+            "ReqPay.Payees.Payee[0].Ac.Detail[2].value",
+            MsgWhy::Kind,
+        ),
+        (
+            "\"Ac\":{\"Detail\":[{\"name\":\"IFSC\",\"value\":\"BBBB0000000\"},{\"name\":\"ACNUM\",\"value\":\"2\"}],\"addrType\":\"ACCOUNT\"}",
+            "\"Ac\":{\"Detail\":[{\"name\":\"IFSC\",\"value\":\"AAAA0000000\"}],\"addrType\":\"ACCOUNT\"}",
+            "ReqPay.Payees.Payee[0].Ac.Detail",
+            MsgWhy::Count,
+        ),
+        (
+            "\"Ac\":{\"Detail\":[{\"name\":\"IFSC\",\"value\":\"BBBB0000000\"},{\"name\":\"ACNUM\",\"value\":\"2\"}],\"addrType\":\"ACCOUNT\"}",
+            "\"Ac\":{\"Detail\":[{\"name\":\"IFSC\",\"value\":\"BBBB0000000\"},{\"name\":\"ACNUM\",\"value\":\"2\"},{\"name\":\"IFSC\",\"value\":\"AAAA0000000\"}],\"addrType\":\"ACCOUNT\"}",
+            "ReqPay.Payees.Payee[0].Ac.Detail",
+            MsgWhy::Count,
+        ),
+        (
+            "\"Ac\":{\"Detail\":[{\"name\":\"IFSC\",\"value\":\"BBBB0000000\"},{\"name\":\"ACNUM\",\"value\":\"2\"}],\"addrType\":\"ACCOUNT\"}",
+            "\"Ac\":{\"Detail\":[{\"name\":\"IFSC\",\"value\":\"BBBB0000000\"},{\"name\":\"ACNUM\",\"value\":\"2\"},{\"name\":\"ACNUM\",\"value\":\"1\"}],\"addrType\":\"ACCOUNT\"}",
+            "ReqPay.Payees.Payee[0].Ac.Detail",
+            MsgWhy::Count,
+        ),
+        (
+            "\"Ac\":{\"Detail\":[{\"name\":\"IFSC\",\"value\":\"BBBB0000000\"},{\"name\":\"ACNUM\",\"value\":\"2\"}],\"addrType\":\"ACCOUNT\"}",
+            "\"Ac\":{\"Detail\":[{\"name\":\"ACNUM\",\"value\":\"1-1\"},{\"name\":\"IFSC\",\"value\":\"AAAA0000000\"}],\"addrType\":\"ACCOUNT\"}",
+            "ReqPay.Payees.Payee[0].Ac.Detail[0].value",
+            MsgWhy::Value,
+        ),
+        (
+            "\"Ac\":{\"Detail\":[{\"name\":\"IFSC\",\"value\":\"BBBB0000000\"},{\"name\":\"ACNUM\",\"value\":\"2\"}],\"addrType\":\"ACCOUNT\"}",
+            "\"Ac\":{\"Detail\":[{\"name\":\"ACNUM\",\"value\":\"1\"},{\"name\":\"IFSC\",\"value\":\"AAAa0000000\"}],\"addrType\":\"ACCOUNT\"}",
+            "ReqPay.Payees.Payee[0].Ac.Detail[1].value",
+            MsgWhy::Value,
+        ),
+        (
+            "\"Ac\":{\"Detail\":[{\"name\":\"IFSC\",\"value\":\"BBBB0000000\"},{\"name\":\"ACNUM\",\"value\":\"2\"}],\"addrType\":\"ACCOUNT\"}",
+            "\"Ac\":{\"Detail\":[{\"name\":\"ACNUM\",\"value\":\"\"},{\"name\":\"IFSC\",\"value\":\"AAAA000000\"}],\"addrType\":\"ACCOUNT\"}",
+            "ReqPay.Payees.Payee[0].Ac.Detail[1].value",
+            MsgWhy::Value,
+        ),
+    ] {
+        let input = edited(alloc, PAY, old, new)?;
+        assert!(rt; is_bad(&input, path, why), "{new}");
+    }
+    Ok(())
+}

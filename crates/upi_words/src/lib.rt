@@ -1,0 +1,3 @@
+//! The types and words that definitions, contracts and proofs cite, passed on from one place, as
+//! std's Prelude does. It has no code.
+#![tactic(auto)]

@@ -1,0 +1,4 @@
+pub mod Refusals
+pub mod Additions
+pub mod Providers
+pub mod Builds

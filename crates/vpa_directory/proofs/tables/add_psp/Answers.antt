@@ -1,0 +1,11 @@
+use Rattle.std.proofs.Common.{[], ◌∷◌, ◌++◌, ap, ◌∙◌}
+use Rattle.upi_base.specs.Names.{Text}
+use Rattle.upi_base.specs.declared.setup.SetupLine.TheVariants as line
+use Rattle.vpa_directory.proofs.Additions.{psp_entered}
+use Rattle.vpa_directory.proofs.tables.add_psp.Goals as goal
+
+pub returns-clause-fit : goal.returns-clause-fit
+returns-clause-fit c =
+    let more = c.in_ok-push.ensures.ok ∙ ap (λ (x : Text). c.args.lines.now ++ line.Psp x ∷ []) c.copy.ensures in
+    let keys = rw c.unwrap.ensures at c.insert.ensures.keys in
+    psp_entered c.args.lines.now c.push.new.self c.args.psps.now.keys c.reserve.new.self.keys c.insert.new.self.keys c.args.name c.requires c.in_default.ensures c.reserve.ensures.keys keys more
