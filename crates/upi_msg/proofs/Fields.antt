@@ -1,10 +1,9 @@
 -- The members of a written message are read back.
-use Rattle.std.proofs.Common.{◌≡◌, ℕ, ◌+◌, ◌<◌, ◌≤◌, ◌^◌, ◌==◌, ◌&&◌, nat_le, Bool, true, false, true≢false, List, [], ◌∷◌, ◌++◌, length, take, codes, Option, Some, None, Result, Ok, option_map, is_some, decimal, refl, sym, ap, ◌∙◌, subst, length-append, arith, nat_lt}
+use Rattle.std.proofs.Common.{◌≡◌, ℕ, ◌+◌, ◌<◌, ◌≤◌, ◌^◌, ◌==◌, nat_le, Bool, true, false, true≢false, List, [], ◌∷◌, ◌++◌, length, take, codes, Option, Some, None, Ok, option_map, is_some, decimal, refl, sym, ap, ◌∙◌, subst, length-append, arith}
 use Rattle.std.specs.List.{list_all, prefix_len}
 use Rattle.std.specs.Char.{is_ascii_digit, is_ascii_alphanumeric, is_ascii_uppercase}
 use Rattle.std.specs.Int.{IsInRange}
-use Rattle.std.specs.Str.Parse.{digits_value, AllDigits}
-use Rattle.std.proofs.Math.Bool.{Bool-set}
+use Rattle.std.specs.Str.Parse.{AllDigits}
 use Rattle.std.proofs.Math.Seq.{take-append_seam}
 use Rattle.std.proofs.lemmas.Bool.{and_parts, and_from, le-leb}
 use Rattle.std.proofs.lemmas.Bool.Decides.{nat_tests}
@@ -12,27 +11,26 @@ use Rattle.std.proofs.Math.Seq.{take-length}
 use Rattle.std.proofs.lemmas.List.Folds.{list_all-append}
 use Rattle.std.proofs.lemmas.Fmt.{decimal_is_IsNumeral, decimal_nonempty, length-decimal-le}
 use Rattle.std.proofs.lemmas.Str.Parse.{digit_from_value}
-use Rattle.serde_json.specs.Data.{Data, string, array, object, Items, no_items, item, Members, no_members, member}
+use Rattle.serde_json.specs.Data.{Data, string, object, Members, no_members, member}
 use Rattle.serde_json.specs.Find.{get}
-use Rattle.upi_base.specs.Lists.{when}
-use Rattle.upi_base.specs.Texts.{is_msg_id, is_org_id, is_txn_id, is_addr, is_note_text, is_digits_text, is_bank_code, is_bank, is_ac_num}
+use Rattle.upi_base.specs.Texts.{is_msg_id, is_org_id, is_txn_id, is_addr, is_note_text, is_bank_code, is_bank}
 use Rattle.upi_base.specs.Versions.{is_two}
 use Rattle.upi_base.specs.Money.{paise_text, max_paise}
 use Rattle.upi_base.specs.Time.{moment_text, max_moment}
 use Rattle.upi_base.proofs.Again.{paise_again, moment_again}
 use Rattle.upi_msg.specs.Types.{Text, Kind, Ver, Extra, Head, AccountRef, PayReq, AuthResp, Chk, ConfResp, Message, Api}
 use Rattle.upi_msg.specs.Places.{name_text}
-use Rattle.upi_msg.specs.Members.{◌>>=◌, of_value, text_of, object_of, list_of, member_at, text_at, object_in, list_in, small_in, moment_in}
+use Rattle.upi_msg.specs.Members.{text_of, object_of, list_of, member_at, text_at, object_in, list_in, small_in, moment_in}
 use Rattle.upi_msg.specs.Named.{named_item, only_named}
 use Rattle.upi_msg.specs.Heads.{ver_named, ver_in, head_of}
 use Rattle.upi_msg.specs.Parties.{value_in, amount_of, amount_in, bank_of_ifsc, account_of_items, account_of, ac_of, account_in, payee_of}
-use Rattle.upi_msg.specs.Payments.{kind_named, kind_in, note_of, note_at, note_in, minutes_within, minutes_of, minutes_in, rules_of, rules_at, rules_in, no_digits, digits_at, digits_in, terms_of, payer_of, again_at, payee_in, extra_by, extra_by_version, request, pay_of}
-use Rattle.upi_msg.specs.Answering.{result_named, result_in, txn_in, payees_of, payees_at, payees_in, answer_of, check_of, confirmed_of}
-use Rattle.upi_msg.specs.Read.{root_named, root_in, known, body_of, parts_of, message_of}
-use Rattle.upi_msg.specs.Tree.{only, single, ver_text, kind_text, result_text, api_text, head_tree_of, head_tree, amount_tree, account_tree, rules_tree, mode_tree, purpose_tree, payer_tree, payee_tree, payees_tree, txn_tree, parties_tree, pay_tree, answer_payer_tree, resp_tree, account_payees_tree, answer_body, answer_tree, id_tree, check_tree, confirmed_tree, message_tree}
+use Rattle.upi_msg.specs.Payments.{kind_named, kind_in, note_of, note_in, minutes_of, minutes_in, rules_of, rules_in, no_digits, digits_in, terms_of, payer_of, payee_in, extra_by, extra_by_version, request, pay_of}
+use Rattle.upi_msg.specs.Answering.{result_named, result_in, txn_in, payees_of, payees_in, answer_of, check_of, confirmed_of}
+use Rattle.upi_msg.specs.Read.{root_named, body_of, parts_of, message_of}
+use Rattle.upi_msg.specs.Tree.{only, ver_text, kind_text, result_text, api_text, head_tree_of, head_tree, amount_tree, account_tree, rules_tree, mode_tree, purpose_tree, payer_tree, payee_tree, payees_tree, txn_tree, parties_tree, pay_tree, answer_payer_tree, resp_tree, account_payees_tree, answer_body, answer_tree, id_tree, check_tree, confirmed_tree, message_tree}
 use Rattle.upi_msg.specs.Typed.{IsTypedHead, IsTypedAccount, IsTypedAc, IsTypedNote, IsTypedMinutes, IsTypedExtra, IsTypedPay, IsTypedAnswer, IsTypedMessage}
-use Rattle.upi_msg.specs.declared.place.{Root.Root, Who.Who, Part.Part, Name.Name, Place.Place, Fault.Fault}
-use Rattle.upi_msg.specs.declared.pay.{Terms.Terms, Payer.Payer, Payee.Payee}
+use Rattle.upi_msg.specs.declared.place.{Root.Root, Who.Who, Part.Part, Name.Name, Place.Place}
+use Rattle.upi_msg.specs.declared.pay.{Terms.Terms}
 use Rattle.upi_msg.proofs.Requests as requests
 use Rattle.upi_msg.proofs.Lookups.{txn_rules, txn_id, txn_mode, txn_note, txn_purpose, txn_type, payer_ac, payer_amount, payer_addr, payee_ac, payee_amount, payee_addr, answer_payer_ac, answer_payer_amount, answer_head, answer_payees, answer_payer, answer_resp, answer_txn}
 

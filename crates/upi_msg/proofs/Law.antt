@@ -5,7 +5,7 @@ use Rattle.std.proofs.lemmas.Slice.Eq.{bytes_eq-Decides}
 use Rattle.upi_msg.specs.Types.{PayReq, Message, Input}
 use Rattle.upi_msg.specs.Tree.{message_tree, message_text}
 use Rattle.upi_msg.specs.Read.{said_by, judged, input_of}
-use Rattle.upi_msg.specs.Typed.{IsTypedPay, IsTypedMessage, ReadsBack}
+use Rattle.upi_msg.specs.Typed.{IsTypedPay, ReadsBack}
 use Rattle.upi_msg.proofs.Roots.{tree_some}
 use Rattle.upi_msg.proofs.Wells.{well_utf8, well_again}
 use Rattle.upi_msg.proofs.Written.{message_well}

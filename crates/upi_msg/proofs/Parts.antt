@@ -12,7 +12,7 @@ use Rattle.upi_base.specs.declared.code.Ver.{Ver}
 use Rattle.upi_base.specs.declared.message.Extra.{Extra}
 use Rattle.upi_base.specs.declared.message.Chk.{Chk}
 use Rattle.upi_base.specs.declared.message.ConfResp.{ConfResp}
-use Rattle.upi_msg.specs.Tree.{maybe, only, head_tree, head_tree_of, amount_tree, account_tree, rules_tree, kind_text, ver_text, mode_tree, purpose_tree, payer_tree, payee_tree, payment_tree, txn_tree, parties_tree, pay_tree, result_text, account_payees_tree, answer_payer_tree, resp_tree, outcome_tree, id_tree, answer_body, answer_tree, check_tree, confirmed_tree}
+use Rattle.upi_msg.specs.Tree.{maybe, only, head_tree, head_tree_of, amount_tree, account_tree, rules_tree, ver_text, mode_tree, purpose_tree, payer_tree, payee_tree, txn_tree, parties_tree, account_payees_tree, answer_payer_tree, resp_tree, outcome_tree, id_tree, answer_body, check_tree, confirmed_tree}
 use Rattle.upi_msg.specs.Pieces.{front_text, later_text}
 use Rattle.upi_msg.proofs.Pieces.{glue, front, later}
 

@@ -1,5 +1,5 @@
 -- The path to a place is within the grammar of paths.
-use Rattle.std.proofs.Common.{◌≡◌, ◌≤◌, ◌<◌, ◌+◌, ◌^◌, ◌&&◌, nat_le, ℕ, Bool, true, false, true≢false, List, [], ◌∷◌, ◌++◌, length, length-append, codes, decimal, refl, sym, ap, ◌∙◌, subst, arith}
+use Rattle.std.proofs.Common.{◌≡◌, ◌≤◌, ◌<◌, ◌+◌, ◌^◌, ◌&&◌, nat_le, ℕ, Bool, true, false, true≢false, List, [], ◌∷◌, ◌++◌, length, length-append, codes, decimal, refl, sym, ap, ◌∙◌, arith}
 use Rattle.std.specs.Int.{IsInRange}
 use Rattle.std.specs.List.{list_all}
 use Rattle.std.specs.Str.Parse.{AllDigits}

@@ -5,7 +5,7 @@ use Rattle.serde_json.specs.Data.{Data, string, Members, member, no_members}
 use Rattle.serde_json.specs.Written.{compact_text, members_text}
 use Rattle.upi_base.specs.Words.{code_text}
 use Rattle.upi_msg.specs.Types.{AccountRef, AuthQuestion, Extra, Code}
-use Rattle.upi_msg.specs.Tree.{maybe, kind_text, payees_tree, payer_tree, payee_tree, txn_tree, id_tree, answer_payer_tree, resp_tree, outcome_tree}
+use Rattle.upi_msg.specs.Tree.{kind_text, payer_tree, payee_tree, txn_tree, id_tree, answer_payer_tree, resp_tree, outcome_tree}
 use Rattle.upi_msg.specs.Pieces.{later_text, opening_text}
 use Rattle.upi_msg.specs.Sending.{question_members, word_members, credit_members, debit_members, result_members, confirm_members, told_members, rooted, ack_tree}
 use Rattle.upi_msg.proofs.Pieces.{glue, later}

@@ -1,5 +1,5 @@
 -- The one member of an object, and the one item of a list.
-use Rattle.std.proofs.Common.{◌≡◌, ◌≢◌, ◌≤◌, ℕ, List, [], ◌∷◌, String, string_bytes, slice_get, length, Some, None, Err, refl, sym, ap, ◌∙◌, subst, Bool, true, false, if◌then◌else◌, Option, IsUtf8, arith}
+use Rattle.std.proofs.Common.{◌≡◌, ◌≢◌, ◌≤◌, ℕ, List, [], ◌∷◌, String, string_bytes, slice_get, length, Some, None, Err, refl, ap, ◌∙◌, Bool, true, false, if◌then◌else◌, IsUtf8, arith}
 use Rattle.std.specs.Str.{is_utf8}
 use Rattle.std.specs.declared.alloc.Global.{Global}
 use Rattle.std.proofs.lemmas.Str.{IsUtf8-from_is_utf8, is_utf8-from_IsUtf8}

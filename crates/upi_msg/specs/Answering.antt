@@ -1,5 +1,5 @@
 -- Reading what a PSP answers or asks: `RespAuthDetails`, `ReqChkTxn`, `RespTxnConfirmation`.
-use Rattle.std.specs.Prelude.{◌≡◌, Bool, true, false, Option, Some, None, Result, Ok, codes, if◌then◌else◌}
+use Rattle.std.specs.Prelude.{Bool, true, false, Option, Some, None, Result, Ok, codes, if◌then◌else◌}
 use Rattle.std.specs.Str.{bytes_eq}
 use Rattle.serde_json.specs.Find.{get}
 use Rattle.upi_base.specs.Texts.{is_txn_id, is_msg_id}

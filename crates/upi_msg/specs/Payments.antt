@@ -1,5 +1,5 @@
 -- Reading a `ReqPay`.
-use Rattle.std.specs.Prelude.{◌≡◌, ℕ, ◌&&◌, ◌==◌, nat_le, nat_eq, refl, List, [], ◌∷◌, length, take, Option, Some, None, is_some, Result, Ok, codes, if◌then◌else◌}
+use Rattle.std.specs.Prelude.{◌≡◌, ℕ, ◌&&◌, ◌==◌, nat_le, refl, [], ◌∷◌, length, take, Option, Some, None, is_some, Result, Ok, codes, if◌then◌else◌}
 use Rattle.std.specs.List.{prefix_len}
 use Rattle.std.specs.Char.{is_ascii_digit}
 use Rattle.std.specs.Str.{bytes_eq}
@@ -8,7 +8,7 @@ use Rattle.serde_json.specs.Find.{get}
 use Rattle.upi_base.specs.Lists.{when}
 use Rattle.upi_base.specs.Texts.{is_txn_id, is_addr, is_note_text, is_digits_text}
 use Rattle.upi_base.specs.Versions.{is_two}
-use Rattle.upi_msg.specs.Types.{Text, Data, Items, Ver, Kind, Extra, Head, PayReq, AccountRef, MsgWhy}
+use Rattle.upi_msg.specs.Types.{Text, Data, Items, Ver, Kind, Extra, Head, PayReq, MsgWhy}
 use Rattle.upi_msg.specs.Members.{◌>>=◌, fault, of_value, text_of, object_of, object_in, list_in, small_in, read_in}
 use Rattle.upi_msg.specs.Named.{named_items, count_named, find_named}
 use Rattle.upi_msg.specs.Heads.{head_of}

@@ -2,7 +2,7 @@
 use Rattle.std.specs.Prelude.{◌≡◌, ◌≤◌, true, length, ℕ, ◌++◌, ◌∷◌, [], codes, decimal}
 use Rattle.std.specs.List.{list_all}
 use Rattle.upi_base.specs.Texts.{is_path_byte}
-use Rattle.upi_msg.specs.Types.{Text, Api, BadMessage}
+use Rattle.upi_msg.specs.Types.{Text, BadMessage}
 use Rattle.upi_msg.specs.Tree.{api_text}
 use Rattle.upi_msg.specs.declared.place.{Root.Root, Who.Who, Part.Part, Name.Name, Place.Place, Fault.Fault}
 

@@ -1,8 +1,8 @@
 -- The JSON of the messages that are sent, and of the replies to a PSP.
-use Rattle.std.specs.Prelude.{ℕ, ◌++◌, List, [], codes, decimal, Option, Some, None, option_map}
+use Rattle.std.specs.Prelude.{ℕ, ◌++◌, [], codes, decimal, Option, Some, None, option_map}
 use Rattle.serde_json.specs.Written.{compact_text}
 use Rattle.upi_base.specs.Words.{code_text, leg_text, outcome_word}
-use Rattle.upi_msg.specs.Types.{Text, Data, string, object, Members, no_members, member, AccountRef, AuthQuestion, Extra, Leg, Code, Answer, Outcome, Reply, Ver, Party, Body, Sent, Call, Done, Message, Input, Head, Chk}
+use Rattle.upi_msg.specs.Types.{Text, Data, string, object, Members, no_members, member, AccountRef, AuthQuestion, Extra, Leg, Code, Answer, Outcome, Reply, Party, Body, Sent, Call, Message, Input, Head, Chk}
 use Rattle.upi_msg.specs.Tree.{maybe, only, api_text, kind_text, result_text, head_tree_of, payees_tree, payer_tree, payee_tree, txn_tree, id_tree, answer_payer_tree, resp_tree, outcome_tree}
 
 -- the name of a party, as `orgId` gives it

@@ -3,7 +3,7 @@ use Rattle.std.specs.Prelude.{◌≡◌, ◌≤◌, ℕ, true, Option, Some, Non
 use Rattle.upi_base.specs.Texts.{is_msg_id, is_org_id, is_txn_id, is_addr, is_note_text, is_digits_text, is_bank_code, is_ac_num}
 use Rattle.upi_base.specs.Money.{max_paise}
 use Rattle.upi_base.specs.Time.{max_moment}
-use Rattle.upi_msg.specs.Types.{Text, Extra, Head, AccountRef, PayReq, AuthResp, Chk, ConfResp, Message, Input}
+use Rattle.upi_msg.specs.Types.{Text, Extra, Head, AccountRef, PayReq, AuthResp, Message, Input}
 use Rattle.upi_msg.specs.Tree.{message_text}
 use Rattle.upi_msg.specs.Read.{input_of}
 

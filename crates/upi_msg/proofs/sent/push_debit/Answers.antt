@@ -1,4 +1,4 @@
-use Rattle.std.proofs.Common.{codes, refl}
+use Rattle.std.proofs.Common.{refl}
 use Rattle.upi_msg.proofs.Pieces.{grows}
 use Rattle.upi_msg.proofs.Rests.{debit_parts, debit_text}
 use Rattle.upi_msg.proofs.sent.push_debit.Goals as goal

@@ -1,4 +1,4 @@
-use Rattle.std.proofs.Common.{codes, refl}
+use Rattle.std.proofs.Common.{refl}
 use Rattle.upi_msg.proofs.Pieces.{grows}
 use Rattle.upi_msg.proofs.Rests.{question_parts, question_text}
 use Rattle.upi_msg.proofs.sent.push_question.Goals as goal

@@ -1,6 +1,6 @@
 use Rattle.std.proofs.Common.{codes, refl}
 use Rattle.json.specs.Print.{escape_byte}
-use Rattle.upi_msg.specs.Tree.{head_tree, kind_text, payee_tree, payer_tree, payment_tree}
+use Rattle.upi_msg.specs.Tree.{head_tree, payee_tree, payer_tree, payment_tree}
 use Rattle.upi_msg.proofs.Pieces.{grows}
 use Rattle.upi_msg.proofs.Parts.{parties_parts, parties_text}
 use Rattle.upi_msg.proofs.write.push_pay.Goals as goal
