@@ -56,23 +56,6 @@ pub enum ShardCall {
     Late(TxnId),
 }
 
-impl ShardCall {
-    /// The same call. It fails only for want of memory.
-    pub fn copy(&self, alloc: Global) -> Result<ShardCall, NoMemory>
-        ensures { IfOk result (λ x. x ≡ self.now) }
-    {
-        match self {
-            ShardCall::Hear { psp, input } => Ok(ShardCall::Hear {
-                psp: psp.copy(),
-                input: input.copy(alloc)?,
-            }),
-            ShardCall::Deliver(sent) => Ok(ShardCall::Deliver(sent.copy(alloc)?)),
-            ShardCall::Lose(sent) => Ok(ShardCall::Lose(sent.copy(alloc)?)),
-            ShardCall::Late(txn) => Ok(ShardCall::Late(txn.copy())),
-        }
-    }
-}
-
 /// An entry of the history: a call, its moment, its caller's number, the reply and what was sent.
 #[derive(Drop)]
 pub struct Entry {

@@ -242,15 +242,3 @@ pub struct Setup {
     /// Its banks, PSPs, accounts and addresses, in the order in which they are given.
     pub lines: SetupLines,
 }
-
-impl Setup {
-    /// The same setup. It fails only for want of memory.
-    pub fn copy(&self, alloc: Global) -> Result<Setup, NoMemory>
-        ensures { IfOk result (λ x. x ≡ self.now) }
-    {
-        Ok(Setup {
-            start: self.start,
-            lines: self.lines.copy(alloc)?,
-        })
-    }
-}
