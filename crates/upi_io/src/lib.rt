@@ -1,6 +1,8 @@
-//! Sources and sinks of bytes, the lines of a source, and the words and the end of a top call.
+//! Sources and sinks of bytes, the lines of a source, the words and the end of a top call, and
+//! gates for tests of threads.
 #![tactic(auto)]
 
+pub mod gate;
 pub mod lines;
 pub mod memory;
 pub mod sink;
@@ -9,6 +11,7 @@ pub mod standard;
 pub mod status;
 pub mod words;
 
+pub use gate::{Gate, OpenGate, Point};
 pub use lines::{Line, LineFault, LineReader, MAX_LINE, MAX_LINES};
 pub use memory::{MemSink, MemSource};
 pub use sink::{Sink, WriteAnswer, Wrote, write_all};
