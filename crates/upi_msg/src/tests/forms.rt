@@ -199,6 +199,26 @@ fn forms(rt: HostRuntime) -> Result<(), Fail> {
     Ok(())
 }
 
+// A root that comes twice is one member, its last value; what one reader has read before makes no
+// difference.
+#[test]
+fn one_reader(rt: HostRuntime) -> Result<(), Fail> {
+    let alloc = rt.alloc();
+    let mut reader = Reader::new(alloc);
+    let twice = exchanged(
+        alloc,
+        "{\"ReqPay\":{",
+        "{\"ReqPay\":\"\\u0041\",\"ReqPay\":{",
+    )?;
+    for text in [twice.as_slice(), PLAIN.as_bytes(), twice.as_slice()] {
+        let input = reader.read(text).ok().ok_or("memory")?;
+        assert!(rt; is_written(alloc, &input, PLAIN.as_bytes())?);
+        let none = reader.read(b"[").ok().ok_or("memory")?;
+        assert!(rt; is_bad(&none, "-", MsgWhy::Json));
+    }
+    Ok(())
+}
+
 // Of two faults the first in the order of the table counts, wherever they stand in the text.
 #[test]
 fn first_faults(rt: HostRuntime) -> Result<(), Fail> {
