@@ -165,6 +165,7 @@ fn forms(rt: HostRuntime) -> Result<(), Fail> {
             "\"type\":\"PAY\",\"Rules\":{\"Rule\":[]}",
         ),
         ("\"type\":\"PAY\"", "\"type\":7,\"type\":\"PAY\""),
+        ("{\"ReqPay\":{", "{\"ReqPay\":1,\"ReqPay\":{"),
         (
             "\"addr\":\"ann@alpha\"",
             "\"addr\":\"ann@alpha\",\"Ac\":{\"addrType\":\"VPA\",\"Detail\":1}",
@@ -196,26 +197,6 @@ fn forms(rt: HostRuntime) -> Result<(), Fail> {
         "\"Txn\":{\"Rules\":{\"Rule\":[{\"name\":\"EXPIREAFTER\",\"value\":\"90\"}]},",
     )?;
     assert!(rt; is_written(alloc, &heard(alloc, &minutes)?, &written)?);
-    Ok(())
-}
-
-// A root that comes twice is one member, its last value; what one reader has read before makes no
-// difference.
-#[test]
-fn one_reader(rt: HostRuntime) -> Result<(), Fail> {
-    let alloc = rt.alloc();
-    let mut reader = Reader::new(alloc);
-    let twice = exchanged(
-        alloc,
-        "{\"ReqPay\":{",
-        "{\"ReqPay\":\"\\u0041\",\"ReqPay\":{",
-    )?;
-    for text in [twice.as_slice(), PLAIN.as_bytes(), twice.as_slice()] {
-        let input = reader.read(text).ok().ok_or("memory")?;
-        assert!(rt; is_written(alloc, &input, PLAIN.as_bytes())?);
-        let none = reader.read(b"[").ok().ok_or("memory")?;
-        assert!(rt; is_bad(&none, "-", MsgWhy::Json));
-    }
     Ok(())
 }
 

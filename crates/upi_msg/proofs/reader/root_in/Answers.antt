@@ -1,7 +1,6 @@
 use Rattle.std.proofs.Common.{◌≡◌, Err, option_map, ap, sym, ◌∙◌, subst}
 use Rattle.serde_json.specs.Find.{as_object}
 use Rattle.json_tree.specs.Seen.{seen}
-use Rattle.upi_msg.specs.Types.{Data}
 use Rattle.upi_msg.specs.Members.{Gives}
 use Rattle.upi_msg.specs.Read.{root_in, root_named, known}
 use Rattle.upi_msg.proofs.Roots.{root_of, only_root}
