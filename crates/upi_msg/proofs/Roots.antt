@@ -1,35 +1,50 @@
 -- The one member of an object, and the one item of a list.
-use Rattle.std.proofs.Common.{◌≡◌, ◌≢◌, ◌≤◌, ℕ, List, [], ◌∷◌, String, string_bytes, slice_get, length, Some, None, Err, refl, ap, ◌∙◌, Bool, true, false, if◌then◌else◌, IsUtf8, arith}
+use Rattle.std.proofs.Common.{◌≡◌, ◌≤◌, ℕ, List, [], ◌∷◌, length, Option, Some, None, is_some, Result, Ok, Err, refl, ap, ◌∙◌, Bool, true, false, if◌then◌else◌, IsUtf8, arith}
 use Rattle.std.specs.Str.{is_utf8}
-use Rattle.std.specs.declared.alloc.Global.{Global}
 use Rattle.std.proofs.lemmas.Str.{IsUtf8-from_is_utf8, is_utf8-from_IsUtf8}
-use Rattle.serde_json.specs.Data.{Data}
+use Rattle.json.specs.declared.value.Value.{Value}
+use Rattle.json_tree.specs.Seen.{seen_items, only_of}
+use Rattle.serde_json.specs.Data.{Data, null, boolean, number, string, array, object, Members, no_members, member}
+use Rattle.serde_json.specs.Find.{as_object}
 use Rattle.serde_json.specs.Read.{read}
-use Rattle.serde_json.specs.View.{view, items_view, members_view}
-use Rattle.serde_json.specs.declared.value.Value.{Value}
-use Rattle.upi_msg.specs.Types.{MsgWhy}
-use Rattle.upi_msg.specs.Members.{fault}
+use Rattle.upi_msg.specs.Types.{Text, MsgWhy}
+use Rattle.upi_msg.specs.Members.{fault, object_of}
 use Rattle.upi_msg.specs.Parties.{one_of}
 use Rattle.upi_msg.specs.Read.{root_in, root_named, known, no_root, tree_in}
-use Rattle.upi_msg.specs.declared.place.{Place.Place}
+use Rattle.upi_msg.specs.declared.place.{Root.Root, Place.Place, Fault.Fault}
 
-abbrev Entry : Type 0
-Entry = String Global × Value
+-- the root of what may be one member
+abbrev pub root_of : Option (Text × Data) → Result (Root × Data) Fault
+root_of None = Err no_root
+root_of (Some m) = known m.1 (root_named m.0)
 
-pub root_none : (es : List Entry) → length es ≢ 1 → root_in (Some (members_view es)) ≡ Err no_root
-root_none [] h = refl
-root_none (e ∷ []) h = absurd (h refl)
-root_none (e ∷ f ∷ es) h = refl
+-- the one member of an object, and its root
+pub only_root : (o : Option Members) → root_of (only_of o) ≡ root_in o
+only_root None = refl
+only_root (Some no_members) = refl
+only_root (Some (member k d no_members)) = refl
+only_root (Some (member k d (member l e ms))) = refl
 
-pub root_one : (es : List Entry) (k : String Global) (v : Value) → length es ≡ 1 → slice_get es 0 ≡ Some (k, v) → root_in (Some (members_view es)) ≡ known (view v) (root_named (string_bytes k))
-root_one [] k v l e = absurd (omega arith)
-root_one (p ∷ []) k v l e =
-    let same : p.0 ≡ k = cc in
-    let other : p.1 ≡ v = cc in
-    rw (same, other) refl
-root_one (p ∷ q ∷ es) k v l e = absurd (omega arith)
+-- an object, as it has to be one
+pub object_there : (p : Place) (d : Data) → true ≡ is_some (as_object d) → object_of p d ≡ Ok d
+unfolding object_of
+object_there p null h = absurd (cc)
+object_there p (boolean b) h = absurd (cc)
+object_there p (number n) h = absurd (cc)
+object_there p (string s) h = absurd (cc)
+object_there p (array ds) h = absurd (cc)
+object_there p (object ms) h = refl
 
-pub one_many : (p : Place) (vs : List Value) → 2 ≤ length vs → one_of p (items_view vs) ≡ fault p MsgWhy.Count
+pub no_object : (p : Place) (d : Data) → false ≡ is_some (as_object d) → object_of p d ≡ fault p MsgWhy.Kind
+unfolding object_of
+no_object p null h = refl
+no_object p (boolean b) h = refl
+no_object p (number n) h = refl
+no_object p (string s) h = refl
+no_object p (array ds) h = refl
+no_object p (object ms) h = absurd (cc)
+
+pub one_many : {A : Type 0} (p : Place) (vs : List (Value A)) → 2 ≤ length vs → one_of p (seen_items vs) ≡ fault p MsgWhy.Count
 one_many p [] le = absurd (omega arith)
 one_many p (v ∷ []) le = absurd (omega arith)
 one_many p (v ∷ w ∷ vs) le = refl

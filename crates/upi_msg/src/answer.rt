@@ -1,13 +1,14 @@
 //! Reading what a PSP answers or asks.
 ghost use Rattle.std.specs.Prelude.{◌≡◌, option_map};
-ghost use Rattle.serde_json.specs.View.{view};
+ghost use Rattle.json_tree.specs.Seen.{seen};
 ghost use Rattle.upi_msg.specs.Answering;
 
 use crate::head::head_of;
 use crate::member::{object_in, object_of, of_value, small_in, text_at};
 use crate::party::{account_in, amount_in, payee_of};
 use crate::place::{Fault, Name, Part, Place, Root, Who};
-use serde_json::Value;
+use json::Value;
+use json_tree::member;
 use upi_base::{AccountRef, AuthResp, Chk, ConfResp, MsgId, TxnId};
 
 // The yes or no of a word.
@@ -25,8 +26,8 @@ fn result_named(text: &str) -> Option<bool>
 
 // `result`.
 #[tactic(auto, unfolding(crate::specs::Answering::result_in))]
-fn result_in(part: Part, value: &Value) -> Result<bool, Fault>
-    ensures { result ≡ Answering.result_in part (view value.now) }
+fn result_in(part: Part, value: &Value<'_>) -> Result<bool, Fault>
+    ensures { result ≡ Answering.result_in part (seen value.now) }
 {
     let place = Place::Member(part, Name::Result);
     let text = text_at(place, Name::Result, value)?;
@@ -35,8 +36,8 @@ fn result_in(part: Part, value: &Value) -> Result<bool, Fault>
 
 // `Txn`, of which the id is read.
 #[tactic(auto, unfolding(crate::specs::Answering::txn_in))]
-fn txn_in(root: Root, value: &Value) -> Result<TxnId, Fault>
-    ensures { result ≡ Answering.txn_in root (view value.now) }
+fn txn_in(root: Root, value: &Value<'_>) -> Result<TxnId, Fault>
+    ensures { result ≡ Answering.txn_in root (seen value.now) }
 {
     let txn = object_in(Part::Root(root), Name::Txn, value)?;
     small_in(Part::Txn(root), Name::Id, txn)
@@ -44,8 +45,8 @@ fn txn_in(root: Root, value: &Value) -> Result<TxnId, Fault>
 
 // `Payees`, of which the account is read.
 #[tactic(auto, unfolding(crate::specs::Answering::payees_of))]
-fn payees_of(root: Root, value: &Value) -> Result<Option<AccountRef>, Fault>
-    ensures { result ≡ Answering.payees_of root (view value.now) }
+fn payees_of(root: Root, value: &Value<'_>) -> Result<Option<AccountRef>, Fault>
+    ensures { result ≡ Answering.payees_of root (seen value.now) }
 {
     let payees = object_of(Place::Member(Part::Root(root), Name::Payees), value)?;
     let payee = payee_of(root, payees)?;
@@ -53,10 +54,10 @@ fn payees_of(root: Root, value: &Value) -> Result<Option<AccountRef>, Fault>
 }
 
 // `Payees`, which may be there.
-fn payees_in(root: Root, value: &Value) -> Result<Option<AccountRef>, Fault>
-    ensures { result ≡ Answering.payees_in root (view value.now) }
+fn payees_in(root: Root, value: &Value<'_>) -> Result<Option<AccountRef>, Fault>
+    ensures { result ≡ Answering.payees_in root (seen value.now) }
 {
-    match value.get("Payees") {
+    match member(value, "Payees") {
         None => Ok(None),
         Some(payees) => payees_of(root, payees),
     }
@@ -64,8 +65,8 @@ fn payees_in(root: Root, value: &Value) -> Result<Option<AccountRef>, Fault>
 
 /// A `RespAuthDetails`.
 #[tactic(auto, unfolding(crate::specs::Answering::answer_of))]
-pub(crate) fn answer_of(value: &Value) -> Result<AuthResp, Fault>
-    ensures { result ≡ Answering.answer_of (view value.now) }
+pub(crate) fn answer_of(value: &Value<'_>) -> Result<AuthResp, Fault>
+    ensures { result ≡ Answering.answer_of (seen value.now) }
 {
     let root = Root::RespAuthDetails;
     let head = head_of(root, value)?;
@@ -90,8 +91,8 @@ pub(crate) fn answer_of(value: &Value) -> Result<AuthResp, Fault>
 
 /// A `ReqChkTxn`.
 #[tactic(auto, unfolding(crate::specs::Answering::check_of))]
-pub(crate) fn check_of(value: &Value) -> Result<Chk, Fault>
-    ensures { result ≡ Answering.check_of (view value.now) }
+pub(crate) fn check_of(value: &Value<'_>) -> Result<Chk, Fault>
+    ensures { result ≡ Answering.check_of (seen value.now) }
 {
     let head = head_of(Root::ReqChkTxn, value)?;
     let txn = txn_in(Root::ReqChkTxn, value)?;
@@ -100,8 +101,8 @@ pub(crate) fn check_of(value: &Value) -> Result<Chk, Fault>
 
 /// A `RespTxnConfirmation`.
 #[tactic(auto, unfolding(crate::specs::Answering::confirmed_of))]
-pub(crate) fn confirmed_of(value: &Value) -> Result<ConfResp, Fault>
-    ensures { result ≡ Answering.confirmed_of (view value.now) }
+pub(crate) fn confirmed_of(value: &Value<'_>) -> Result<ConfResp, Fault>
+    ensures { result ≡ Answering.confirmed_of (seen value.now) }
 {
     let root = Root::RespTxnConfirmation;
     let head = head_of(root, value)?;

@@ -1,11 +1,11 @@
 //! Reading a `Head`.
 ghost use Rattle.std.specs.Prelude.{◌≡◌};
-ghost use Rattle.serde_json.specs.View.{view};
+ghost use Rattle.json_tree.specs.Seen.{seen};
 ghost use Rattle.upi_msg.specs.Heads;
 
 use crate::member::{moment_in, object_in, of_value, small_in, text_at};
 use crate::place::{Fault, Name, Part, Place, Root};
-use serde_json::Value;
+use json::Value;
 use upi_base::{Head, MsgId, OrgId, Ver};
 
 // The version of a word.
@@ -23,8 +23,8 @@ fn ver_named(text: &str) -> Option<Ver>
 
 // `ver`.
 #[tactic(auto, unfolding(crate::specs::Heads::ver_in))]
-fn ver_in(part: Part, value: &Value) -> Result<Ver, Fault>
-    ensures { result ≡ Heads.ver_in part (view value.now) }
+fn ver_in(part: Part, value: &Value<'_>) -> Result<Ver, Fault>
+    ensures { result ≡ Heads.ver_in part (seen value.now) }
 {
     let place = Place::Member(part, Name::Ver);
     let text = text_at(place, Name::Ver, value)?;
@@ -33,8 +33,8 @@ fn ver_in(part: Part, value: &Value) -> Result<Ver, Fault>
 
 /// A `Head`.
 #[tactic(auto, unfolding(crate::specs::Heads::head_of))]
-pub(crate) fn head_of(root: Root, value: &Value) -> Result<Head, Fault>
-    ensures { result ≡ Heads.head_of root (view value.now) }
+pub(crate) fn head_of(root: Root, value: &Value<'_>) -> Result<Head, Fault>
+    ensures { result ≡ Heads.head_of root (seen value.now) }
 {
     let head = object_in(Part::Root(root), Name::Head, value)?;
     let part = Part::Head(root);

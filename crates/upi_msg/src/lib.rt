@@ -16,7 +16,7 @@ mod sent;
 mod words;
 mod write;
 
-pub use reader::{read, reads_back};
+pub use reader::{Reader, read, reads_back};
 pub use reply::reply_text;
 pub use sent::sent_text;
 pub use write::text;

@@ -1,19 +1,20 @@
 //! Reading the members of a party: `Amount` and `Ac`.
 ghost use Rattle.std.specs.Prelude.{◌≡◌, option_map};
-ghost use Rattle.serde_json.specs.View.{view, items_view};
+ghost use Rattle.json_tree.specs.Seen.{seen, seen_items};
 ghost use Rattle.upi_msg.specs.Parties;
 ghost use Rattle.upi_msg.specs.Members.{Gives};
 
-use crate::member::{list_in, object_in, object_of, of_count, of_value, text_at};
+use crate::member::{list_in, object_in, object_of, of_count, of_value, text_at, text_in};
 use crate::named::{named_items, only_named};
 use crate::place::{Fault, Name, Part, Place, Root, Who};
-use serde_json::Value;
+use json::Value;
+use json_tree::member;
 use upi_base::{AcNum, AccountRef, BankCode, MsgWhy, Paise};
 
 // `value` of an `Amount`.
 #[tactic(auto, unfolding(crate::specs::Parties::value_in))]
-fn value_in(part: Part, value: &Value) -> Result<Paise, Fault>
-    ensures { result ≡ Parties.value_in part (view value.now) }
+fn value_in(part: Part, value: &Value<'_>) -> Result<Paise, Fault>
+    ensures { result ≡ Parties.value_in part (seen value.now) }
 {
     let place = Place::Member(part, Name::Value);
     let text = text_at(place, Name::Value, value)?;
@@ -22,8 +23,8 @@ fn value_in(part: Part, value: &Value) -> Result<Paise, Fault>
 
 /// The members of an `Amount`.
 #[tactic(auto, unfolding(crate::specs::Parties::amount_of))]
-pub(crate) fn amount_of(part: Part, value: &Value) -> Result<Paise, Fault>
-    ensures { result ≡ Parties.amount_of part (view value.now) }
+pub(crate) fn amount_of(part: Part, value: &Value<'_>) -> Result<Paise, Fault>
+    ensures { result ≡ Parties.amount_of part (seen value.now) }
 {
     let place = Place::Member(part, Name::Curr);
     let currency = text_at(place, Name::Curr, value)?;
@@ -39,8 +40,8 @@ pub(crate) fn amount_of(part: Part, value: &Value) -> Result<Paise, Fault>
 
 /// The `Amount` of a party that has to have one.
 #[tactic(auto, unfolding(crate::specs::Parties::amount_in))]
-pub(crate) fn amount_in(root: Root, who: Who, value: &Value) -> Result<Paise, Fault>
-    ensures { result ≡ Parties.amount_in root who (view value.now) }
+pub(crate) fn amount_in(root: Root, who: Who, value: &Value<'_>) -> Result<Paise, Fault>
+    ensures { result ≡ Parties.amount_in root who (seen value.now) }
 {
     let amount = object_in(Part::Party(root, who), Name::Amount, value)?;
     amount_of(Part::Amount(root, who), amount)
@@ -63,8 +64,8 @@ fn bank_of_ifsc(text: &[u8]) -> Option<BankCode>
 
 // The account of the named values of a `Detail`.
 #[tactic(auto, unfolding(crate::specs::Parties::account_of_items))]
-fn account_of_items(part: Part, items: &[Value]) -> Result<AccountRef, Fault>
-    ensures { result ≡ Parties.account_of_items part (items_view items.now) }
+fn account_of_items(part: Part, items: &[Value<'_>]) -> Result<AccountRef, Fault>
+    ensures { result ≡ Parties.account_of_items part (seen_items items.now) }
 {
     let count = Place::Member(part, Name::Detail);
     let (first, ifsc) = of_count(count, only_named(items, "IFSC"))?;
@@ -78,8 +79,8 @@ fn account_of_items(part: Part, items: &[Value]) -> Result<AccountRef, Fault>
 
 // The account of an `Ac` that names one.
 #[tactic(auto, unfolding(crate::specs::Parties::account_of))]
-fn account_of(part: Part, value: &Value) -> Result<AccountRef, Fault>
-    ensures { result ≡ Parties.account_of part (view value.now) }
+fn account_of(part: Part, value: &Value<'_>) -> Result<AccountRef, Fault>
+    ensures { result ≡ Parties.account_of part (seen value.now) }
 {
     let items = list_in(part, Name::Detail, value)?;
     named_items(part, Name::Detail, items)?;
@@ -87,10 +88,10 @@ fn account_of(part: Part, value: &Value) -> Result<AccountRef, Fault>
 }
 
 // Whether an `Ac` names an account.
-fn names_account(value: &Value) -> bool
-    ensures { result ≡ Parties.names_account (view value.now) }
+fn names_account(value: &Value<'_>) -> bool
+    ensures { result ≡ Parties.names_account (seen value.now) }
 {
-    match value.get("addrType").and_then(Value::as_str) {
+    match text_in(value, "addrType") {
         Some(text) => text == "ACCOUNT",
         None => false,
     }
@@ -98,8 +99,8 @@ fn names_account(value: &Value) -> bool
 
 // An `Ac`, which counts as absent where it names no account.
 #[tactic(auto, unfolding(crate::specs::Parties::ac_of))]
-fn ac_of(part: Part, place: Place, value: &Value) -> Result<Option<AccountRef>, Fault>
-    ensures { result ≡ Parties.ac_of part place (view value.now) }
+fn ac_of(part: Part, place: Place, value: &Value<'_>) -> Result<Option<AccountRef>, Fault>
+    ensures { result ≡ Parties.ac_of part place (seen value.now) }
 {
     let ac = object_of(place, value)?;
     if names_account(ac) {
@@ -112,10 +113,14 @@ fn ac_of(part: Part, place: Place, value: &Value) -> Result<Option<AccountRef>, 
 
 /// The `Ac` of a party, which may be there.
 #[tactic(auto, unfolding(crate::specs::Parties::account_in))]
-pub(crate) fn account_in(root: Root, who: Who, value: &Value) -> Result<Option<AccountRef>, Fault>
-    ensures { result ≡ Parties.account_in root who (view value.now) }
+pub(crate) fn account_in(
+    root: Root,
+    who: Who,
+    value: &Value<'_>,
+) -> Result<Option<AccountRef>, Fault>
+    ensures { result ≡ Parties.account_in root who (seen value.now) }
 {
-    match value.get("Ac") {
+    match member(value, "Ac") {
         None => Ok(None),
         Some(ac) => ac_of(
             Part::Ac(root, who),
@@ -126,8 +131,8 @@ pub(crate) fn account_in(root: Root, who: Who, value: &Value) -> Result<Option<A
 }
 
 // A list of exactly one.
-fn one_of<'a>(place: Place, items: &'a [Value]) -> Result<&'a Value, Fault>
-    ensures { Gives (λ v. view v.now) result (Parties.one_of place (items_view items.entry.now)) }
+fn one_of<'v, 'a>(place: Place, items: &'v [Value<'a>]) -> Result<&'v Value<'a>, Fault>
+    ensures { Gives (λ v. seen v.now) result (Parties.one_of place (seen_items items.entry.now)) }
 {
     match items {
         [one] => Ok(one),
@@ -144,8 +149,8 @@ fn one_of<'a>(place: Place, items: &'a [Value]) -> Result<&'a Value, Fault>
 
 /// The one item of `Payees.Payee`, an object.
 #[tactic(auto, unfolding(crate::specs::Parties::payee_of))]
-pub(crate) fn payee_of<'a>(root: Root, payees: &'a Value) -> Result<&'a Value, Fault>
-    ensures { Gives (λ v. view v.now) result (Parties.payee_of root (view payees.entry.now)) }
+pub(crate) fn payee_of<'v, 'a>(root: Root, payees: &'v Value<'a>) -> Result<&'v Value<'a>, Fault>
+    ensures { Gives (λ v. seen v.now) result (Parties.payee_of root (seen payees.entry.now)) }
 {
     let part = Part::Payees(root);
     let items = list_in(part, Name::Payee, payees)?;

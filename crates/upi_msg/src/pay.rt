@@ -3,7 +3,7 @@ ghost use Rattle.std.specs.Prelude.{◌≡◌, ◌≤◌, ◌<◌, length, optio
 ghost use Rattle.std.specs.List.{prefix_len};
 ghost use Rattle.std.specs.Char.{is_ascii_digit};
 ghost use Rattle.std.specs.Str.Parse.{digits_value, AllDigits};
-ghost use Rattle.serde_json.specs.View.{view, items_view};
+ghost use Rattle.json_tree.specs.Seen.{seen, seen_items};
 ghost use Rattle.upi_msg.specs.Payments;
 
 use crate::head::head_of;
@@ -11,7 +11,8 @@ use crate::member::{list_in, object_in, object_of, of_value, small_in, text_at, 
 use crate::named::{count_named, find_named, named_items};
 use crate::party::{account_in, amount_in, amount_of, payee_of};
 use crate::place::{Fault, Name, Part, Place, Root, Who};
-use serde_json::Value;
+use json::Value;
+use json_tree::member;
 use upi_base::{
     AccountRef, Addr, Extra, Head, Kind, Minutes, MsgWhy, Note, Paise, PayReq, TwoDigits, TxnId,
     Ver,
@@ -69,8 +70,8 @@ fn kind_named(text: &str) -> Option<Kind>
 
 // `type`.
 #[tactic(auto, unfolding(crate::specs::Payments::kind_in))]
-fn kind_in(part: Part, value: &Value) -> Result<Kind, Fault>
-    ensures { result ≡ Payments.kind_in part (view value.now) }
+fn kind_in(part: Part, value: &Value<'_>) -> Result<Kind, Fault>
+    ensures { result ≡ Payments.kind_in part (seen value.now) }
 {
     let place = Place::Member(part, Name::Type);
     let text = text_at(place, Name::Type, value)?;
@@ -92,11 +93,11 @@ fn note_of(place: Place, text: &[u8]) -> Result<Option<Note>, Fault>
 
 // `note`.
 #[tactic(auto, unfolding(crate::specs::Payments::note_in))]
-fn note_in(part: Part, value: &Value) -> Result<Option<Note>, Fault>
-    ensures { result ≡ Payments.note_in part (view value.now) }
+fn note_in(part: Part, value: &Value<'_>) -> Result<Option<Note>, Fault>
+    ensures { result ≡ Payments.note_in part (seen value.now) }
 {
     let place = Place::Member(part, Name::Note);
-    match value.get("note") {
+    match member(value, "note") {
         None => Ok(None),
         Some(note) => {
             let text = text_of(place, note)?;
@@ -151,8 +152,8 @@ fn minutes_of(text: &[u8]) -> Option<Minutes>
 
 // The minutes of a list of rules.
 #[tactic(auto, unfolding(crate::specs::Payments::minutes_in))]
-fn minutes_in(part: Part, items: &[Value]) -> Result<Option<Minutes>, Fault>
-    ensures { result ≡ Payments.minutes_in part (items_view items.now) }
+fn minutes_in(part: Part, items: &[Value<'_>]) -> Result<Option<Minutes>, Fault>
+    ensures { result ≡ Payments.minutes_in part (seen_items items.now) }
 {
     if count_named(items, "EXPIREAFTER") > 1 {
         return Err(Fault {
@@ -172,8 +173,8 @@ fn minutes_in(part: Part, items: &[Value]) -> Result<Option<Minutes>, Fault>
 
 // The members of `Rules`.
 #[tactic(auto, unfolding(crate::specs::Payments::rules_of))]
-fn rules_of(part: Part, value: &Value) -> Result<Option<Minutes>, Fault>
-    ensures { result ≡ Payments.rules_of part (view value.now) }
+fn rules_of(part: Part, value: &Value<'_>) -> Result<Option<Minutes>, Fault>
+    ensures { result ≡ Payments.rules_of part (seen value.now) }
 {
     let items = list_in(part, Name::Rule, value)?;
     named_items(part, Name::Rule, items)?;
@@ -181,10 +182,10 @@ fn rules_of(part: Part, value: &Value) -> Result<Option<Minutes>, Fault>
 }
 
 // `Rules`, which may be there.
-fn rules_in(root: Root, value: &Value) -> Result<Option<Minutes>, Fault>
-    ensures { result ≡ Payments.rules_in root (view value.now) }
+fn rules_in(root: Root, value: &Value<'_>) -> Result<Option<Minutes>, Fault>
+    ensures { result ≡ Payments.rules_in root (seen value.now) }
 {
-    match value.get("Rules") {
+    match member(value, "Rules") {
         None => Ok(None),
         Some(rules) => {
             let rules = object_of(Place::Member(Part::Txn(root), Name::Rules), rules)?;
@@ -204,8 +205,8 @@ fn no_digits() -> TwoDigits
 }
 
 // Two digits that may be there.
-fn digits_at(place: Place, value: Option<&Value>) -> Result<TwoDigits, Fault>
-    ensures { result ≡ Payments.digits_at place (option_map (λ v. view v.now) value.entry) }
+fn digits_at(place: Place, value: Option<&Value<'_>>) -> Result<TwoDigits, Fault>
+    ensures { result ≡ Payments.digits_at place (option_map (λ v. seen v.now) value.entry) }
 {
     match value {
         None => Ok(no_digits()),
@@ -217,8 +218,8 @@ fn digits_at(place: Place, value: Option<&Value>) -> Result<TwoDigits, Fault>
 }
 
 // Two digits that version 2.0 has.
-fn digits_in(ver: Ver, place: Place, value: Option<&Value>) -> Result<TwoDigits, Fault>
-    ensures { result ≡ Payments.digits_in ver place (option_map (λ v. view v.now) value.entry) }
+fn digits_in(ver: Ver, place: Place, value: Option<&Value<'_>>) -> Result<TwoDigits, Fault>
+    ensures { result ≡ Payments.digits_in ver place (option_map (λ v. seen v.now) value.entry) }
 {
     match ver {
         Ver::One => Ok(no_digits()),
@@ -228,8 +229,8 @@ fn digits_in(ver: Ver, place: Place, value: Option<&Value>) -> Result<TwoDigits,
 
 // `Txn`.
 #[tactic(auto, unfolding(crate::specs::Payments::terms_of))]
-fn terms_of(root: Root, ver: Ver, value: &Value) -> Result<Terms, Fault>
-    ensures { result ≡ Payments.terms_of root ver (view value.now) }
+fn terms_of(root: Root, ver: Ver, value: &Value<'_>) -> Result<Terms, Fault>
+    ensures { result ≡ Payments.terms_of root ver (seen value.now) }
 {
     let txn = object_in(Part::Root(root), Name::Txn, value)?;
     let part = Part::Txn(root);
@@ -238,9 +239,9 @@ fn terms_of(root: Root, ver: Ver, value: &Value) -> Result<Terms, Fault>
     let note = note_in(part, txn)?;
     let expire = rules_in(root, txn)?;
     let place = Place::Member(part, Name::InitiationMode);
-    let mode = digits_in(ver, place, txn.get("initiationMode"))?;
+    let mode = digits_in(ver, place, member(txn, "initiationMode"))?;
     let place = Place::Member(part, Name::Purpose);
-    let purpose = digits_in(ver, place, txn.get("purpose"))?;
+    let purpose = digits_in(ver, place, member(txn, "purpose"))?;
     Ok(Terms {
         txn: id,
         kind,
@@ -253,8 +254,8 @@ fn terms_of(root: Root, ver: Ver, value: &Value) -> Result<Terms, Fault>
 
 // `Payer`.
 #[tactic(auto, unfolding(crate::specs::Payments::payer_of))]
-fn payer_of(root: Root, value: &Value) -> Result<Payer, Fault>
-    ensures { result ≡ Payments.payer_of root (view value.now) }
+fn payer_of(root: Root, value: &Value<'_>) -> Result<Payer, Fault>
+    ensures { result ≡ Payments.payer_of root (seen value.now) }
 {
     let payer = object_in(Part::Root(root), Name::Payer, value)?;
     let addr: Addr = small_in(Part::Party(root, Who::Payer), Name::Addr, payer)?;
@@ -278,8 +279,8 @@ fn same_amount(place: Place, first: Paise, second: Paise) -> Result<Paise, Fault
 }
 
 // The payee's `Amount`, which may be there.
-fn again_at(root: Root, amount: Paise, value: Option<&Value>) -> Result<Paise, Fault>
-    ensures { result ≡ Payments.again_at root amount (option_map (λ v. view v.now) value.entry) }
+fn again_at(root: Root, amount: Paise, value: Option<&Value<'_>>) -> Result<Paise, Fault>
+    ensures { result ≡ Payments.again_at root amount (option_map (λ v. seen v.now) value.entry) }
 {
     match value {
         None => Ok(amount),
@@ -295,13 +296,13 @@ fn again_at(root: Root, amount: Paise, value: Option<&Value>) -> Result<Paise, F
 
 // `Payees`.
 #[tactic(auto, unfolding(crate::specs::Payments::payee_in))]
-fn payee_in(root: Root, amount: Paise, value: &Value) -> Result<Payee, Fault>
-    ensures { result ≡ Payments.payee_in root amount (view value.now) }
+fn payee_in(root: Root, amount: Paise, value: &Value<'_>) -> Result<Payee, Fault>
+    ensures { result ≡ Payments.payee_in root amount (seen value.now) }
 {
     let payees = object_in(Part::Root(root), Name::Payees, value)?;
     let payee = payee_of(root, payees)?;
     let addr: Addr = small_in(Part::Party(root, Who::Payee), Name::Addr, payee)?;
-    again_at(root, amount, payee.get("Amount"))?;
+    again_at(root, amount, member(payee, "Amount"))?;
     let ac = account_in(root, Who::Payee, payee)?;
     Ok(Payee { addr, ac })
 }
@@ -316,9 +317,9 @@ fn extra_by(ver: Ver, mode: TwoDigits, purpose: TwoDigits) -> Option<Extra>
     }
 }
 
-// The payment of what was read.
+/// The payment of what was read.
 #[tactic(auto, using(crate::specs::Payments::extra_by_version))]
-fn request(head: Head, terms: Terms, payer: Payer, payee: Payee) -> PayReq
+pub(crate) fn request(head: Head, terms: Terms, payer: Payer, payee: Payee) -> PayReq
     ensures { result ≡ Payments.request head terms payer payee }
 {
     let extra = extra_by(head.ver, terms.mode, terms.purpose);
@@ -339,8 +340,8 @@ fn request(head: Head, terms: Terms, payer: Payer, payee: Payee) -> PayReq
 
 /// A `ReqPay`.
 #[tactic(auto, unfolding(crate::specs::Payments::pay_of))]
-pub(crate) fn pay_of(value: &Value) -> Result<PayReq, Fault>
-    ensures { result ≡ Payments.pay_of (view value.now) }
+pub(crate) fn pay_of(value: &Value<'_>) -> Result<PayReq, Fault>
+    ensures { result ≡ Payments.pay_of (seen value.now) }
 {
     let root = Root::ReqPay;
     let head = head_of(root, value)?;

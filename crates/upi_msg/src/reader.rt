@@ -1,8 +1,7 @@
 //! Reading what a PSP sends.
-ghost use Rattle.std.specs.Prelude.{◌≡◌, ℕ, None, Some, MatchOption, IfOk, IsUtf8};
-ghost use Rattle.serde_json.specs.Read.{read as read_tree};
-ghost use Rattle.serde_json.specs.View.{view};
+ghost use Rattle.std.specs.Prelude.{◌≡◌, IfOk};
 ghost use Rattle.serde_json.specs.Find.{as_object};
+ghost use Rattle.json_tree.specs.Seen.{seen};
 ghost use Rattle.upi_msg.specs.Read;
 ghost use Rattle.upi_msg.specs.Members.{Gives};
 ghost use Rattle.upi_msg.specs.Typed.{ReadsBack};
@@ -13,26 +12,10 @@ use crate::head::head_of;
 use crate::member::object_of;
 use crate::pay::pay_of;
 use crate::place::{Fault, Part, Place, Root, bad_of};
-use serde_json::Value;
+use json::{Scratch, Value};
+use json_tree::{only_member, tree};
 use std::alloc::Global;
 use upi_base::{Api, Boxed, Input, Message, MsgWhy, NoMemory};
-
-// The tree that bytes spell, if they spell one.
-fn tree_of(alloc: Global, bytes: &[u8]) -> Result<Option<Value>, NoMemory>
-    ensures { IfOk result (λ o. MatchOption o (IsUtf8 bytes.now → read_tree bytes.now ≡ None)
-        (λ v. IsUtf8 bytes.now × (read_tree bytes.now ≡ Some (view v)))) }
-{
-    match Value::from_slice(alloc, bytes) {
-        Ok(value) => Ok(Some(value)),
-        Err(error) => {
-            if error.is_memory() {
-                Err(NoMemory)
-            } else {
-                Ok(None)
-            }
-        }
-    }
-}
 
 // The root of a name.
 fn root_named(name: &str) -> Option<Root>
@@ -69,22 +52,24 @@ fn no_root() -> Fault
     }
 }
 
-// The one member of a tree, which has the name of a root.
-fn root_in<'a>(value: &'a Value) -> Result<(Root, &'a Value), Fault>
-    ensures { Gives (λ p. (p.0, view p.1.now)) result
-        (Read.root_in (as_object (view value.entry.now))) }
+// A member, which has the name of a root.
+fn root_and<'v, 'a>(name: &str, body: &'v Value<'a>) -> Result<(Root, &'v Value<'a>), Fault>
+    ensures { Gives (λ p. (p.0, seen p.1.now)) result
+        (Read.known (seen body.entry.now) (Read.root_named name.now)) }
 {
-    let Some(map) = value.as_object() else {
-        return Err(no_root());
-    };
-    if map.len() != 1 {
-        return Err(no_root());
-    }
-    let Some((name, body)) = map.first_key_value() else {
-        return Err(no_root());
-    };
-    match root_named(name.as_str()) {
+    match root_named(name) {
         Some(root) => Ok((root, body)),
+        None => Err(no_root()),
+    }
+}
+
+// The one member of a tree, which has the name of a root.
+fn root_in<'v, 'a>(value: &'v Value<'a>) -> Result<(Root, &'v Value<'a>), Fault>
+    ensures { Gives (λ p. (p.0, seen p.1.now)) result
+        (Read.root_in (as_object (seen value.entry.now))) }
+{
+    match only_member(value) {
+        Some((name, body)) => root_and(name, body),
         None => Err(no_root()),
     }
 }
@@ -97,8 +82,8 @@ fn bad_input(alloc: Global, fault: Fault) -> Result<Input, NoMemory>
 }
 
 // What is told of a payment.
-fn pay_input(alloc: Global, value: &Value) -> Result<Input, NoMemory>
-    ensures { IfOk result (λ i. i ≡ Read.judged (Read.body_of Root.ReqPay (view value.now))) }
+fn pay_input(alloc: Global, value: &Value<'_>) -> Result<Input, NoMemory>
+    ensures { IfOk result (λ i. i ≡ Read.judged (Read.body_of Root.ReqPay (seen value.now))) }
 {
     match pay_of(value) {
         Ok(request) => Ok(Input::Good(Message::Pay(Boxed::new(alloc, request)?))),
@@ -107,8 +92,8 @@ fn pay_input(alloc: Global, value: &Value) -> Result<Input, NoMemory>
 }
 
 // What is told of a yes or a no.
-fn answer_input(alloc: Global, value: &Value) -> Result<Input, NoMemory>
-    ensures { IfOk result (λ i. i ≡ Read.judged (Read.body_of Root.RespAuthDetails (view value.now))) }
+fn answer_input(alloc: Global, value: &Value<'_>) -> Result<Input, NoMemory>
+    ensures { IfOk result (λ i. i ≡ Read.judged (Read.body_of Root.RespAuthDetails (seen value.now))) }
 {
     match answer_of(value) {
         Ok(answer) => Ok(Input::Good(Message::AuthAnswer(Boxed::new(alloc, answer)?))),
@@ -117,8 +102,8 @@ fn answer_input(alloc: Global, value: &Value) -> Result<Input, NoMemory>
 }
 
 // What is told of a question for a status.
-fn check_input(alloc: Global, value: &Value) -> Result<Input, NoMemory>
-    ensures { IfOk result (λ i. i ≡ Read.judged (Read.body_of Root.ReqChkTxn (view value.now))) }
+fn check_input(alloc: Global, value: &Value<'_>) -> Result<Input, NoMemory>
+    ensures { IfOk result (λ i. i ≡ Read.judged (Read.body_of Root.ReqChkTxn (seen value.now))) }
 {
     match check_of(value) {
         Ok(check) => Ok(Input::Good(Message::Check(check))),
@@ -127,9 +112,9 @@ fn check_input(alloc: Global, value: &Value) -> Result<Input, NoMemory>
 }
 
 // What is told of the answer to a confirmation.
-fn confirmed_input(alloc: Global, value: &Value) -> Result<Input, NoMemory>
+fn confirmed_input(alloc: Global, value: &Value<'_>) -> Result<Input, NoMemory>
     ensures { IfOk result
-        (λ i. i ≡ Read.judged (Read.body_of Root.RespTxnConfirmation (view value.now))) }
+        (λ i. i ≡ Read.judged (Read.body_of Root.RespTxnConfirmation (seen value.now))) }
 {
     match confirmed_of(value) {
         Ok(answer) => Ok(Input::Good(Message::Confirmed(Boxed::new(alloc, answer)?))),
@@ -138,8 +123,8 @@ fn confirmed_input(alloc: Global, value: &Value) -> Result<Input, NoMemory>
 }
 
 // What is told of a message that a PSP may not send.
-fn foreign_input(alloc: Global, api: Api, value: &Value) -> Result<Input, NoMemory>
-    ensures { IfOk result (λ i. i ≡ Read.judged (Read.body_of (Root.Foreign api) (view value.now))) }
+fn foreign_input(alloc: Global, api: Api, value: &Value<'_>) -> Result<Input, NoMemory>
+    ensures { IfOk result (λ i. i ≡ Read.judged (Read.body_of (Root.Foreign api) (seen value.now))) }
 {
     match head_of(Root::Foreign(api), value) {
         Ok(head) => Ok(Input::Good(Message::Foreign { api, head })),
@@ -148,8 +133,8 @@ fn foreign_input(alloc: Global, api: Api, value: &Value) -> Result<Input, NoMemo
 }
 
 // What is told of the message of a root.
-fn body_input(alloc: Global, root: Root, value: &Value) -> Result<Input, NoMemory>
-    ensures { IfOk result (λ i. i ≡ Read.judged (Read.body_of root (view value.now))) }
+fn body_input(alloc: Global, root: Root, value: &Value<'_>) -> Result<Input, NoMemory>
+    ensures { IfOk result (λ i. i ≡ Read.judged (Read.body_of root (seen value.now))) }
 {
     match root {
         Root::ReqPay => pay_input(alloc, value),
@@ -162,8 +147,8 @@ fn body_input(alloc: Global, root: Root, value: &Value) -> Result<Input, NoMemor
 
 // The root of a tree, and its body, an object.
 #[tactic(auto, unfolding(crate::specs::Read::parts_of))]
-fn parts_of<'a>(value: &'a Value) -> Result<(Root, &'a Value), Fault>
-    ensures { Gives (λ p. (p.0, view p.1.now)) result (Read.parts_of (view value.entry.now)) }
+fn parts_of<'v, 'a>(value: &'v Value<'a>) -> Result<(Root, &'v Value<'a>), Fault>
+    ensures { Gives (λ p. (p.0, seen p.1.now)) result (Read.parts_of (seen value.entry.now)) }
 {
     let (root, body) = root_in(value)?;
     let body = object_of(Place::Part(Part::Root(root)), body)?;
@@ -172,8 +157,8 @@ fn parts_of<'a>(value: &'a Value) -> Result<(Root, &'a Value), Fault>
 
 // What is told of a tree.
 #[tactic(auto, unfolding(crate::specs::Read::message_of))]
-fn tree_input(alloc: Global, value: &Value) -> Result<Input, NoMemory>
-    ensures { IfOk result (λ i. i ≡ Read.judged (Read.message_of (view value.now))) }
+fn tree_input(alloc: Global, value: &Value<'_>) -> Result<Input, NoMemory>
+    ensures { IfOk result (λ i. i ≡ Read.judged (Read.message_of (seen value.now))) }
 {
     match parts_of(value) {
         Ok((root, body)) => body_input(alloc, root, body),
@@ -182,10 +167,10 @@ fn tree_input(alloc: Global, value: &Value) -> Result<Input, NoMemory>
 }
 
 // What any text says.
-fn read_any(alloc: Global, text: &[u8]) -> Result<Input, NoMemory>
+fn read_any(alloc: Global, text: &[u8], scratch: &mut Scratch) -> Result<Input, NoMemory>
     ensures { IfOk result (λ i. i ≡ Read.input_of text.now) }
 {
-    match tree_of(alloc, text)? {
+    match tree(alloc, text, scratch)? {
         Some(value) => tree_input(alloc, &value),
         None => bad_input(
             alloc,
@@ -197,14 +182,45 @@ fn read_any(alloc: Global, text: &[u8]) -> Result<Input, NoMemory>
     }
 }
 
-/// Reads what a PSP sends: a message, or its first fault, with the path to it. It fails only for
-/// want of memory.
+/// Reads what PSPs send. One reader is kept from message to message, with the room that reading
+/// takes.
+#[derive(Drop)]
+pub struct Reader {
+    alloc: Global,
+    scratch: Scratch,
+    // Where a payment that was guessed is written.
+    written: Vec<u8>,
+}
+
+impl Reader {
+    /// A reader without room. It takes what it needs, and keeps it.
+    pub fn new(alloc: Global) -> Reader {
+        Reader {
+            alloc,
+            scratch: Scratch::new(alloc),
+            written: Vec::new(alloc),
+        }
+    }
+
+    /// Reads what a PSP sends: a message, or its first fault, with the path to it. What was read
+    /// before makes no difference. It fails only for want of memory, and may be called again then.
+    pub fn read(&mut self, text: &[u8]) -> Result<Input, NoMemory>
+        ensures { IfOk result (λ i. i ≡ Read.input_of text.now) }
+    {
+        match guessed(self.alloc, text, &mut self.written)? {
+            Some(input) => Ok(input),
+            None => read_any(self.alloc, text, &mut self.scratch),
+        }
+    }
+}
+
+/// Reads one message, as a new [`Reader`] does.
 pub fn read(alloc: Global, text: &[u8]) -> Result<Input, NoMemory>
     ensures { IfOk result (λ i. i ≡ Read.input_of text.now) }
 {
-    match guessed(alloc, text)? {
+    match guessed(alloc, text, &mut Vec::new(alloc))? {
         Some(input) => Ok(input),
-        None => read_any(alloc, text),
+        None => read_any(alloc, text, &mut Scratch::new(alloc)),
     }
 }
 

@@ -2,7 +2,7 @@
 ghost use Rattle.std.specs.Prelude.{◌≡◌, ◌++◌, OnOk, OnErr, codes, string_bytes, option_map};
 ghost use Rattle.serde_json.specs.Data.{string};
 ghost use Rattle.serde_json.specs.Written.{compact_text};
-ghost use Rattle.json.specs.Print.{quoted};
+ghost use Rattle.json.specs.Print.{escape, quoted};
 ghost use Rattle.upi_msg.specs.Tree.{only, api_text, mode_tree, purpose_tree, head_tree, head_tree_of, amount_tree, account_tree, rules_tree, account_payees_tree, payer_tree, payee_tree, txn_tree, pay_tree, answer_payer_tree, resp_tree, outcome_tree, answer_tree, check_tree, confirmed_tree, message_tree, message_text};
 ghost use Rattle.upi_base.specs.Words.{code_text};
 ghost use Rattle.upi_base.specs.Money.{paise_text};
@@ -38,6 +38,18 @@ pub(crate) fn push_member(out: &mut Vec<u8>, before: &[u8], text: &[u8]) -> Resu
 {
     out.extend_from_slice(before)?;
     push_quoted(out, text)
+}
+
+// Appends these bytes, and the string of those, which need no escape.
+fn push_clear(out: &mut Vec<u8>, before: &[u8], text: &[u8]) -> Result<(), NoMemory>
+    requires { escape text.now ≡ text.now }
+    ensures { OnOk result (out.new.items ≡ out.old.items ++ (before.now ++ quoted text.now)) }
+{
+    out.extend_from_slice(before)?;
+    out.push(b'"')?;
+    out.extend_from_slice(text)?;
+    out.push(b'"')?;
+    Ok(())
 }
 
 // Appends the string of a moment.
@@ -86,13 +98,13 @@ pub(crate) fn push_head_of(
 fn push_head(out: &mut Vec<u8>, head: &Head) -> Result<(), NoMemory>
     ensures { OnOk result (out.new.items ≡ out.old.items ++ compact_text (head_tree head.now)) }
 {
-    push_head_of(
-        out,
-        head.msg_id.bytes(),
-        head.org.bytes(),
-        head.ts,
-        head.ver,
-    )
+    push_clear(out, b"{\"msgId\":", head.msg_id.bytes())?;
+    push_clear(out, b",\"orgId\":", head.org.bytes())?;
+    out.extend_from_slice(b",\"ts\":")?;
+    push_moment(out, head.ts)?;
+    push_member(out, b",\"ver\":", ver_text(head.ver))?;
+    out.push(b'}')?;
+    Ok(())
 }
 
 // Appends an `Amount`.
@@ -194,7 +206,7 @@ pub(crate) fn push_payer(
     push_ac_front(out, ac)?;
     out.extend_from_slice(b"\"Amount\":")?;
     push_amount(out, amount)?;
-    push_text(out, b",\"addr\":", addr)?;
+    push_clear(out, b",\"addr\":", addr.bytes())?;
     out.push(b'}')?;
     Ok(())
 }
@@ -210,7 +222,7 @@ pub(crate) fn push_payee(
 {
     out.push(b'{')?;
     push_ac_front(out, ac)?;
-    push_text(out, b"\"addr\":", addr)?;
+    push_clear(out, b"\"addr\":", addr.bytes())?;
     out.push(b'}')?;
     Ok(())
 }
@@ -229,7 +241,7 @@ pub(crate) fn push_txn(
 {
     out.push(b'{')?;
     push_rules_front(out, expire)?;
-    push_text(out, b"\"id\":", id)?;
+    push_clear(out, b"\"id\":", id.bytes())?;
     push_mode(out, extra)?;
     push_note(out, note)?;
     push_purpose(out, extra)?;

@@ -165,6 +165,7 @@ fn forms(rt: HostRuntime) -> Result<(), Fail> {
             "\"type\":\"PAY\",\"Rules\":{\"Rule\":[]}",
         ),
         ("\"type\":\"PAY\"", "\"type\":7,\"type\":\"PAY\""),
+        ("{\"ReqPay\":{", "{\"ReqPay\":1,\"ReqPay\":{"),
         (
             "\"addr\":\"ann@alpha\"",
             "\"addr\":\"ann@alpha\",\"Ac\":{\"addrType\":\"VPA\",\"Detail\":1}",
