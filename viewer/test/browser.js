@@ -1,0 +1,119 @@
+// Drives a headless Chromium over its debugging pipe (file descriptors 3 and 4), with node alone.
+"use strict";
+const { spawn } = require("node:child_process");
+const fs = require("node:fs");
+const os = require("node:os");
+const path = require("node:path");
+
+/** Milliseconds after which a wait is given up. */
+const PATIENCE = 60_000;
+
+class Browser {
+    #calls = new Map();
+    #next = 1;
+    #rest = "";
+
+    /** Starts the browser of that path, with a profile of its own that is thrown away. */
+    constructor(program) {
+        this.profile = fs.mkdtempSync(path.join(os.tmpdir(), "viewer-"));
+        const asRoot = process.getuid?.() === 0 ? ["--no-sandbox"] : [];
+        this.child = spawn(program, [
+            "--headless=new", "--remote-debugging-pipe", `--user-data-dir=${this.profile}`, "--no-first-run",
+            "--disable-gpu", "--disable-dev-shm-usage", "--hide-scrollbars", "--force-device-scale-factor=1",
+            "--disable-background-networking", "--disable-component-update", ...asRoot, "about:blank",
+        ], { stdio: ["ignore", "ignore", "ignore", "pipe", "pipe"] });
+        this.child.stdio[4].setEncoding("utf8").on("data", (text) => this.#hear(text));
+        this.child.on("exit", () => this.#end(new Error("the browser ended")));
+    }
+
+    #hear(text) {
+        const parts = (this.#rest + text).split("\0");
+        this.#rest = parts.pop();
+        for (const part of parts) {
+            const { id, result, error } = JSON.parse(part);
+            const call = this.#calls.get(id);
+            this.#calls.delete(id);
+            if (error) call?.fail(new Error(error.message));
+            else call?.done(result);
+        }
+    }
+
+    #end(error) {
+        for (const { fail } of this.#calls.values()) fail(error);
+        this.#calls.clear();
+    }
+
+    /** Makes a call of the protocol. */
+    call(method, params = {}) {
+        const id = this.#next++;
+        this.child.stdio[3].write(`${JSON.stringify({ id, method, params, sessionId: this.session })}\0`);
+        return new Promise((done, fail) => this.#calls.set(id, { done, fail }));
+    }
+
+    /** Opens a page, and makes the calls after it its own. */
+    async open(url) {
+        const { targetId } = await this.call("Target.createTarget", { url: "about:blank" });
+        const { sessionId } = await this.call("Target.attachToTarget", { targetId, flatten: true });
+        this.session = sessionId;
+        await this.call("Page.enable");
+        await this.call("Page.navigate", { url });
+        await this.until(() => document.readyState === "complete" && location.href !== "about:blank");
+    }
+
+    /** What a function answers in the page; it and its arguments are sent as text. */
+    async run(what, ...args) {
+        const expression = `(${what})(...${JSON.stringify(args)})`;
+        const { result, exceptionDetails } = await this.call("Runtime.evaluate",
+            { expression, awaitPromise: true, returnByValue: true });
+        if (exceptionDetails) throw new Error(exceptionDetails.exception?.description ?? exceptionDetails.text);
+        return result.value;
+    }
+
+    /** Waits until a function of the page answers true. */
+    async until(what, ...args) {
+        const limit = Date.now() + PATIENCE;
+        while (!(await this.run(what, ...args))) {
+            if (Date.now() > limit) throw new Error(`gave up waiting for ${what}`);
+            await new Promise((go) => setTimeout(go, 20));
+        }
+    }
+
+    /** Presses a key. */
+    async press(key, code = key) {
+        const text = key === "Enter" ? "\r" : undefined;
+        const windowsVirtualKeyCode = { Enter: 13, Tab: 9, End: 35, Home: 36, ArrowDown: 40, ArrowUp: 38, PageDown: 34 }[key];
+        await this.call("Input.dispatchKeyEvent", { type: "keyDown", key, code, text, windowsVirtualKeyCode });
+        await this.call("Input.dispatchKeyEvent", { type: "keyUp", key, code, windowsVirtualKeyCode });
+    }
+
+    /** Puts a file into an input of the page. */
+    async choose(selector, file) {
+        const { root } = await this.call("DOM.getDocument");
+        const { nodeId } = await this.call("DOM.querySelector", { nodeId: root.nodeId, selector });
+        await this.call("DOM.setFileInputFiles", { nodeId, files: [file] });
+    }
+
+    /** Sets the window's size and the machine's colours. */
+    async look({ width = 1400, height = 1000, dark = false, print = false } = {}) {
+        await this.call("Emulation.setDeviceMetricsOverride", { width, height, deviceScaleFactor: 1, mobile: false });
+        await this.call("Emulation.setEmulatedMedia", {
+            media: print ? "print" : "", features: [{ name: "prefers-color-scheme", value: dark ? "dark" : "light" }],
+        });
+    }
+
+    /** Writes a picture of the window. */
+    async picture(file) {
+        const { data } = await this.call("Page.captureScreenshot", { format: "png" });
+        fs.writeFileSync(file, Buffer.from(data, "base64"));
+    }
+
+    async close() {
+        this.session = undefined;
+        const gone = new Promise((go) => this.child.once("exit", go));
+        await this.call("Browser.close").catch(() => {});
+        await gone;
+        fs.rmSync(this.profile, { recursive: true, force: true, maxRetries: 5 });
+    }
+}
+
+module.exports = { Browser };
