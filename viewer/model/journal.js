@@ -170,7 +170,7 @@ Viewer.journal = (() => {
             else this.apart.push(entry);
             for (const message of entry.sent) {
                 if (message.id === id) continue;
-                this.#remark(message.line, `the entry above it isn't about ${message.id}`);
+                this.#remark(message.line, `the entry above it isn’t about ${message.id}`);
                 this.#apply(this.#payment(message.id), entry);
             }
         }
@@ -260,7 +260,7 @@ Viewer.journal = (() => {
             const account = this.accounts.get(move.account);
             const amount = BigInt(move.amount);
             if (account) account.balance += move.leg === "DEBIT" ? -amount : amount;
-            else this.#remark(entry.line, `the account ${move.account} isn't in the setup`);
+            else this.#remark(entry.line, `the account ${move.account} isn’t in the setup`);
             const change = standing.flight - before;
             if (change === 0) return;
             this.flight += BigInt(change);

@@ -52,7 +52,7 @@ Viewer.standing = (() => {
             if (entry.call === "HEAR") {
                 return entry.heard.api === "RespTxnConfirmation" ? this.confirmed : this.stage !== "NONE";
             }
-            if (entry.call !== "DELIVER") return false;
+            if (entry.call !== "DELIVER" || !message) return false;
             if (message.body === "ANSWER") return this.answered[message.leg];
             return message.body === "CONFIRMED" ? this.confirmed : message.body === "RESPAUTH";
         }
@@ -63,7 +63,7 @@ Viewer.standing = (() => {
          * @returns {?Move}      what it moved, if anything
          */
         apply(id, entry) {
-            if (entry.call === "CLOSE") return this.#close(entry);
+            if (entry.call === "CLOSE") return this.#close();
             const move = entry.call === "DELIVER" ? this.#deliver(entry) : null;
             if (entry.call === "HEAR" && entry.reply.word === "OK") this.#hear(entry);
             for (const message of entry.sent) if (message.id === id) this.#send(entry, message);
@@ -83,6 +83,7 @@ Viewer.standing = (() => {
 
         #deliver(entry) {
             const { message, reply } = entry;
+            if (!message) return null; // no line before it is that message
             if (message.body === "CONFIRMED" && reply.word === "OK") this.#confirm();
             if (message.body === "ANSWER" && reply.word === "OK") this.answered[message.leg] = true;
             const isOrder = message.body === message.leg;

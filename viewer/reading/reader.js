@@ -32,7 +32,7 @@ Viewer.reader = (() => {
     /** Refuses a line that hasn't one of these numbers of words. */
     function count(words, ...counts) {
         if (!counts.includes(words.length)) {
-            throw new Fault(0, "FIELDS", `${words[0]} doesn't have ${words.length} words`);
+            throw new Fault(0, "FIELDS", `${words[0]} doesn’t have ${words.length} words`);
         }
     }
 
@@ -146,9 +146,9 @@ Viewer.reader = (() => {
         const mark = text.lastIndexOf(" = ");
         if (mark < 0) throw new Fault(0, "FIELDS", "an E line has “ = ” before its reply");
         const words = text.slice(0, mark).split(" ");
-        if (words.length < 5) throw new Fault(0, "FIELDS", `E doesn't have ${words.length} words before “=”`);
+        if (words.length < 5) throw new Fault(0, "FIELDS", `E doesn’t have ${words.length} words before “=”`);
         if (read(words, 2, G.readNumber, "number") !== place) {
-            throw value(2, `the entry's place is ${words[1]} and not ${place}`);
+            throw value(2, `the entry’s place is ${words[1]} and not ${place}`);
         }
         const caller = read(words, 3, G.readNumber, "number");
         const at = read(words, 4, readSeconds, "moment in seconds");
@@ -166,7 +166,7 @@ Viewer.reader = (() => {
                 if (words.length < 7) throw new Fault(0, "FIELDS", "HEAR has a PSP and a message");
                 entry.psp = once(word(words, 6, G.isPspName, "name of a PSP"));
                 entry.heard = Viewer.messages.read(words.slice(6).join(" "));
-                if (!entry.heard) throw value(7, "the message isn't in its written form");
+                if (!entry.heard) throw value(7, "the message isn’t in its written form");
                 entry.id = entry.heard.id;
                 return 9;
             case "BAD":
@@ -228,7 +228,7 @@ Viewer.reader = (() => {
 
     function readMessage(line, text) {
         const words = text.split(" ");
-        if (words.length < 6) throw new Fault(0, "FIELDS", `M doesn't have ${words.length} words`);
+        if (words.length < 6) throw new Fault(0, "FIELDS", `M doesn’t have ${words.length} words`);
         const number = read(words, 2, G.readNumber, "number");
         const from = once(word(words, 3, isParty, "party"));
         const to = once(word(words, 4, isParty, "party"));
@@ -335,7 +335,7 @@ Viewer.reader = (() => {
             }
             if (words.length > 4) word(words, 5, (flag) => flag === "NOCREDIT", "flag here");
             const [bank, number] = account.split("/");
-            const known = [this.#given.BANK.has(bank), 2, "NOBANK", `the bank ${bank} wasn't given`];
+            const known = [this.#given.BANK.has(bank), 2, "NOBANK", `the bank ${bank} wasn’t given`];
             this.#take("ACCOUNT", account, [known, this.#isNew("ACCOUNT", account)]);
             return {
                 type: "ACCOUNT", line, text, account, bank, number, opening,
@@ -351,8 +351,8 @@ Viewer.reader = (() => {
             const psp = address.split("@")[1];
             this.#take("ADDR", address, [
                 this.#isNew("ADDR", address),
-                [this.#given.PSP.has(psp), 2, "NOPSP", `the PSP ${psp} wasn't given`],
-                [this.#given.ACCOUNT.has(account), 3, "NOACCOUNT", `the account ${account} wasn't given`],
+                [this.#given.PSP.has(psp), 2, "NOPSP", `the PSP ${psp} wasn’t given`],
+                [this.#given.ACCOUNT.has(account), 3, "NOACCOUNT", `the account ${account} wasn’t given`],
             ]);
             return { type: "ADDR", line, text, address, account, policy, psp };
         }
@@ -381,7 +381,7 @@ Viewer.reader = (() => {
         const isCode = row === "OUTCOME" && detail === "FAILURE" ? (text) => G.CODES.has(text) : blank;
         [rules[0], rules[1], rules[2], (text) => rules[3](text) !== null, rules[4] ?? isCode]
             .forEach((rule, at) => {
-                if (!rule(fields[at + 1])) throw value(at + 2, `“${fields[at + 1]}” can't stand there in ${row}`);
+                if (!rule(fields[at + 1])) throw value(at + 2, `“${fields[at + 1]}” can’t stand there in ${row}`);
             });
         return { type: "REPORT_LINE", line, text, row, id, bank, detail, amount: G.readSum(amount), code };
     }
@@ -470,7 +470,7 @@ Viewer.reader = (() => {
                 text = this.#loose.decode(line);
                 if (!this.#isSkipped(text)) {
                     this.lines += 1;
-                    return this.#refuse(new Fault(0, "UTF8", "the line isn't UTF-8"), text);
+                    return this.#refuse(new Fault(0, "UTF8", "the line isn’t UTF-8"), text);
                 }
             }
             this.#line(text);

@@ -15,6 +15,8 @@ class Browser {
 
     /** Starts the browser of that path, with a profile of its own that is thrown away. */
     constructor(program) {
+        /** What the page told by itself: requests, exceptions, entries of its log. */
+        this.events = [];
         this.profile = fs.mkdtempSync(path.join(os.tmpdir(), "viewer-"));
         const asRoot = process.getuid?.() === 0 ? ["--no-sandbox"] : [];
         this.child = spawn(program, [
@@ -30,7 +32,8 @@ class Browser {
         const parts = (this.#rest + text).split("\0");
         this.#rest = parts.pop();
         for (const part of parts) {
-            const { id, result, error } = JSON.parse(part);
+            const { id, result, error, method, params } = JSON.parse(part);
+            if (method) this.events.push({ method, params });
             const call = this.#calls.get(id);
             this.#calls.delete(id);
             if (error) call?.fail(new Error(error.message));
@@ -55,7 +58,7 @@ class Browser {
         const { targetId } = await this.call("Target.createTarget", { url: "about:blank" });
         const { sessionId } = await this.call("Target.attachToTarget", { targetId, flatten: true });
         this.session = sessionId;
-        await this.call("Page.enable");
+        for (const domain of ["Page", "Runtime", "Log", "Network"]) await this.call(`${domain}.enable`);
         await this.call("Page.navigate", { url });
         await this.until(() => document.readyState === "complete" && location.href !== "about:blank");
     }
@@ -69,10 +72,14 @@ class Browser {
         return result.value;
     }
 
-    /** Waits until a function of the page answers true. */
+    /** Waits until a function of the page answers true; a page that is being left answers nothing. */
     async until(what, ...args) {
         const limit = Date.now() + PATIENCE;
-        while (!(await this.run(what, ...args))) {
+        const ask = () => this.run(what, ...args).catch((error) => {
+            if (!/navigated|context/.test(error.message)) throw error;
+            return false;
+        });
+        while (!(await ask())) {
             if (Date.now() > limit) throw new Error(`gave up waiting for ${what}`);
             await new Promise((go) => setTimeout(go, 20));
         }
@@ -84,6 +91,19 @@ class Browser {
         const windowsVirtualKeyCode = { Enter: 13, Tab: 9, End: 35, Home: 36, ArrowDown: 40, ArrowUp: 38, PageDown: 34 }[key];
         await this.call("Input.dispatchKeyEvent", { type: "keyDown", key, code, text, windowsVirtualKeyCode });
         await this.call("Input.dispatchKeyEvent", { type: "keyUp", key, code, windowsVirtualKeyCode });
+    }
+
+    /** Clicks where an element is. */
+    async click(selector, text = "") {
+        const place = await this.run((selector, text) => {
+            const element = [...document.querySelectorAll(selector)].find((one) => one.textContent.includes(text));
+            element.scrollIntoView({ block: "nearest" });
+            const box = element.getBoundingClientRect();
+            return { x: box.x + box.width / 2, y: box.y + Math.min(box.height / 2, 20) };
+        }, selector, text);
+        for (const type of ["mousePressed", "mouseReleased"]) {
+            await this.call("Input.dispatchMouseEvent", { type, ...place, button: "left", clickCount: 1 });
+        }
     }
 
     /** Puts a file into an input of the page. */

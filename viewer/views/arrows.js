@@ -25,7 +25,7 @@ Viewer.arrows = (() => {
      * @typedef {{from: number, to: number, label: string, reply: string, shape: string, again: boolean,
      *   sends: string[], at: number}} Drawing
      *   `from`, `to` and `at` are places of lanes; `at` is who sends. `shape` is told, lost, refused,
-     *   late, close or waiting
+     *   late, close, waiting, or unknown where the journal has no line of the message
      */
 
     /**
@@ -51,6 +51,7 @@ Viewer.arrows = (() => {
         switch (drawing.shape) {
             case "late": return late(x(drawing.at), drawing);
             case "close": return close(x, drawing, lanes);
+            case "unknown": return [words(x(drawing.at), ABOVE, drawing.label, "label"), words(x(drawing.at), BELOW, drawing.reply, "reply")];
             default: return arrow(x(drawing.from), x(drawing.to), drawing);
         }
     }

@@ -16,7 +16,7 @@ Viewer.dom = (() => {
     }
 
     /** The children that are there; texts become text nodes. */
-    const present = (children) => children.flat().filter((child) => child !== null && child !== undefined && child !== false);
+    const present = (children) => children.flat(Infinity).filter((child) => child !== null && child !== undefined && child !== false);
 
     /**
      * An element of the page.

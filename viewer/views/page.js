@@ -106,16 +106,20 @@ Viewer.page = (() => {
             this.#journal = null;
             this.#show("reading");
             byId("reading-what").textContent = `Reading ${name}`;
+            try {
+                await this.#read(blob, name, () => mine === this.#reading);
+            } catch (fault) {
+                if (mine === this.#reading) this.#unreadable(name, fault);
+            }
+        }
+
+        /** Reads it, as long as no other reading has begun. */
+        async #read(blob, name, isMine) {
             const began = performance.now();
             const journal = new Journal();
             const reader = new JournalReader((item) => journal.take(item));
-            try {
-                await this.#pieces(blob, reader, () => mine === this.#reading && !this.#stopped);
-            } catch (fault) {
-                if (mine === this.#reading) this.#unreadable(name, fault);
-                return;
-            }
-            if (mine !== this.#reading) return;
+            await this.#pieces(blob, reader, () => isMine() && !this.#stopped);
+            if (!isMine()) return;
             if (!this.#stopped) reader.end();
             journal.finish();
             const took = (performance.now() - began) / 1000;

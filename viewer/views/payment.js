@@ -63,6 +63,9 @@ Viewer.payment = (() => {
             .map((sent) => `M${sent.number} ${sent.body} → ${sent.to}`);
         const base = { reply: `= ${reply.text}`, again: entry.again > 0 || entry.echo, sends, at: at("SWITCH"), from: 0, to: 0 };
         const shape = isRefusal(reply) ? "refused" : "told";
+        if (!message && (call === "DELIVER" || call === "LOSE")) {
+            return { ...base, shape: "unknown", label: `${call} ${entry.number}, which no line is` };
+        }
         switch (call) {
             case "HEAR":
                 return { ...base, shape, from: at(entry.psp), to: at("SWITCH"), label: tellHeard(entry.heard) };

@@ -35,6 +35,7 @@ Viewer.whole = (() => {
 
     function outcomeTable(journal) {
         const all = journal.opened.length;
+        if (all === 0) return el("p", {}, "No payment was opened.");
         const label = ({ word, code }) => (word === "OPEN" ? `open: ${STAGES[code]}` : [word, code].filter(Boolean).join(" "));
         return table("Outcomes", [{ title: "Outcome" }, number("Payments"), number("Sum"), { title: "Share" }],
             outcomes(journal).map((row) => [
