@@ -149,11 +149,11 @@ Viewer.journal = (() => {
         }
 
         #message(message) {
+            const next = (this.messages.at(-1)?.number ?? 0) + 1;
+            if (message.number !== next) this.#remark(message.line, `message ${message.number} stands where ${next} comes next`);
             this.messages.push(message);
-            if (message.number !== this.messages.length) {
-                this.#remark(message.line, `message ${message.number} stands where ${this.messages.length} comes next`);
-                if (!this.messageOf(message.number)) this.strays.set(message.number, message);
-            }
+            const isInOrder = message.number === this.messages.length;
+            if (!isInOrder && !this.messageOf(message.number)) this.strays.set(message.number, message);
             const { sent } = this.#last;
             if (sent.length === 0) this.#last.sent = [message]; // most entries send one or none
             else sent.push(message);

@@ -12,6 +12,7 @@ class Browser {
     #calls = new Map();
     #next = 1;
     #rest = "";
+    #gone = null;
 
     /** Starts the browser of that path, with a profile of its own that is thrown away. */
     constructor(program) {
@@ -25,6 +26,8 @@ class Browser {
             "--disable-background-networking", "--disable-component-update", ...asRoot, "about:blank",
         ], { stdio: ["ignore", "ignore", "ignore", "pipe", "pipe"] });
         this.child.stdio[4].setEncoding("utf8").on("data", (text) => this.#hear(text));
+        this.child.stdio[3].on("error", () => this.#end(new Error("the browser doesn't listen")));
+        this.child.on("error", (error) => this.#end(error));
         this.child.on("exit", () => this.#end(new Error("the browser ended")));
     }
 
@@ -42,12 +45,14 @@ class Browser {
     }
 
     #end(error) {
+        this.#gone ??= error;
         for (const { fail } of this.#calls.values()) fail(error);
         this.#calls.clear();
     }
 
     /** Makes a call of the protocol. */
     call(method, params = {}) {
+        if (this.#gone) return Promise.reject(this.#gone);
         const id = this.#next++;
         this.child.stdio[3].write(`${JSON.stringify({ id, method, params, sessionId: this.session })}\0`);
         return new Promise((done, fail) => this.#calls.set(id, { done, fail }));
@@ -88,7 +93,7 @@ class Browser {
     /** Presses a key. */
     async press(key, code = key) {
         const text = key === "Enter" ? "\r" : undefined;
-        const windowsVirtualKeyCode = { Enter: 13, Tab: 9, End: 35, Home: 36, ArrowDown: 40, ArrowUp: 38, PageDown: 34 }[key];
+        const windowsVirtualKeyCode = { Enter: 13, Tab: 9, End: 35, Home: 36, ArrowDown: 40, ArrowUp: 38, PageDown: 34, Escape: 27 }[key];
         await this.call("Input.dispatchKeyEvent", { type: "keyDown", key, code, text, windowsVirtualKeyCode });
         await this.call("Input.dispatchKeyEvent", { type: "keyUp", key, code, windowsVirtualKeyCode });
     }
@@ -99,7 +104,7 @@ class Browser {
             const element = [...document.querySelectorAll(selector)].find((one) => one.textContent.includes(text));
             element.scrollIntoView({ block: "nearest" });
             const box = element.getBoundingClientRect();
-            return { x: box.x + box.width / 2, y: box.y + Math.min(box.height / 2, 20) };
+            return { x: box.x + Math.min(box.width / 2, 40), y: box.y + Math.min(box.height / 2, 20) };
         }, selector, text);
         for (const type of ["mousePressed", "mouseReleased"]) {
             await this.call("Input.dispatchMouseEvent", { type, ...place, button: "left", clickCount: 1 });
@@ -129,7 +134,7 @@ class Browser {
 
     async close() {
         this.session = undefined;
-        const gone = new Promise((go) => this.child.once("exit", go));
+        const gone = this.#gone ?? new Promise((go) => this.child.once("exit", go));
         await this.call("Browser.close").catch(() => {});
         await gone;
         fs.rmSync(this.profile, { recursive: true, force: true, maxRetries: 5 });

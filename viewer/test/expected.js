@@ -122,7 +122,7 @@ const PAYMENTS = {
             E 8 05:30:59 SWITCH>beta M6 RESPPAY SUCCESS = TOLD : SUCCESS
             E 9 05:30:59 SWITCH>alpha M7 CONFIRM SUCCESS = TOLD : SUCCESS
             E 10 05:30:59 alpha>SWITCH M8 CONFIRMED = OK : SUCCESS`),
-        facts: ["Asks, is asked: beta, alpha", "May take: 1 minutes"],
+        facts: ["Asks, is asked: beta, alpha", "May take: 1 minute"],
         report: ["OUTCOME,C1,,SUCCESS,30.00,", "SETTLE,C1,AAAA,PAID,30.00,", "SETTLE,C1,BBBB,RECEIVED,30.00,"],
         agrees: 8, nets: NETS_OF_30, balances: MOVED_30, items: null,
         flight: "Most: 30.00 after entry 4. At the end: 0.00.",

@@ -208,6 +208,7 @@ async function checkSpoiled() {
     await paste(good.replace("M 4 AAAA SWITCH ANSWER T1 DEBIT POSTED\n", ""));
     check("a message that is missing", (await see("banners")).slice(0, 2), [
         "Line 18: no line before it is message 4. Sums may not hold.", "Line 19: message 5 stands where 4 comes next. Sums may not hold."]);
+    check("a delivery of no message", (await see("steps"))[4], "E 5 05:30:00 DELIVER 4, which no line is = OK : Crediting");
     await paste(good.replace("E 11 0", "# FULL 2097152\nE 11 0"));
     await goTo("whole");
     check("calls that found no room", await see("table", "Lines about no payment"), ["30 | # FULL 2097152", "31 | E 11 0 1704067200 CLOSE = CLOSED"]);
@@ -282,6 +283,15 @@ async function checkLooks() {
         await faint(`${name}, banners`);
         await browser.picture(path.join(out, `${name}-banners.png`));
     }
+    await browser.look({ height: 800 });
+    await drop("load.journal", Buffer.from(large(1000)));
+    await browser.run(() => document.activeElement.blur());
+    await browser.picture(path.join(out, "light-payments.png"));
+    await browser.look({ width: 640, height: 1200 });
+    await browser.click(".canvas .grid-row", "L000003");
+    await browser.until(() => location.hash === "#payment=L000003");
+    check("nothing of the page is out of reach in a narrow window", await browser.run(() => document.documentElement.scrollWidth), 640);
+    await browser.picture(path.join(out, "narrow.png"));
     await browser.look({ dark: true });
     await drop("credit_deemed", Buffer.from(textOf("credit_deemed")));
     await browser.call("Page.printToPDF");
@@ -336,6 +346,13 @@ async function checkLarge() {
     check("large: the rows of each place are there", [scrolled.right, scrolled.rows < 120], [true, true]);
     check("large: scrolling has no delay", scrolled.middle < 100 || scrolled.middle, true);
 
+    await browser.run(() => { document.querySelector(".grid").scrollTop = 30_000 * 34; });
+    await browser.until(() => document.getElementById("payment-row-30001") !== null);
+    await browser.click("#payment-row-30001");
+    await browser.until(() => document.querySelector("#payment h3")?.textContent === "L030002");
+    await browser.press("Escape");
+    await browser.until(() => location.hash === "#payments" && document.getElementById("payment-row-30001") !== null);
+    check("large: back where it was", await browser.run(() => document.querySelector(".grid").scrollTop), 30_000 * 34);
     await goTo("whole");
     const cards = await see("cards");
     check("large: cards", [cards["Payments opened"], cards.Lost, cards.Late, cards.Items, cards["In flight"]], ["50,000", "10,000", "10,000", "5,000", "50000.00"]);
@@ -393,8 +410,8 @@ async function main() {
     for (const part of [checkExamples, checkEverything, checkSpoiled, checkKeys, checkLooks, checkLarge]) await part();
     checkSilence();
     if (keep === "keep") {
-        for (const name of ["light-payment", "large-payments"]) {
-            fs.copyFileSync(path.join(out, `${name}.png`), path.join(viewer, "pictures", `${name.split("-")[1]}.png`));
+        for (const name of ["payment", "payments"]) {
+            fs.copyFileSync(path.join(out, `light-${name}.png`), path.join(viewer, "pictures", `${name}.png`));
         }
     }
 }

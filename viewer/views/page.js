@@ -202,7 +202,7 @@ Viewer.page = (() => {
 
         #route() {
             if (!this.#journal) return;
-            const [view, id] = decodeURIComponent(location.hash.slice(1)).split("=");
+            const [view, id] = location.hash.slice(1).split("=");
             const chosen = view === "payment" && id ? this.#journal.payments.get(id) ?? null : null;
             if (chosen) this.#payment = chosen;
             const shown = view === "payment" && !this.#payment ? "payments" : VIEWS.includes(view) ? view : "payments";
@@ -212,6 +212,7 @@ Viewer.page = (() => {
                 if (name === shown) tab.setAttribute("aria-current", "page");
                 else tab.removeAttribute("aria-current");
             }
+            scrollTo(0, 0);
             this.#draw(shown);
         }
 
@@ -226,10 +227,7 @@ Viewer.page = (() => {
                 if (this.view.payment !== this.#payment) this.view.show(this.#payment);
                 this.view.focus();
             }
-            if (shown === "payments") {
-                this.table.draw();
-                this.table.focus();
-            }
+            if (shown === "payments") this.table.show();
             if (shown === "whole" && !this.#wholeIsShown) {
                 Viewer.whole.showWhole(byId("whole"), this.#journal, this.#agreement);
                 this.#wholeIsShown = true;
@@ -246,7 +244,9 @@ Viewer.page = (() => {
         #print(begins) {
             if (!this.#journal) return;
             if (!byId("payments").hidden) begins ? this.table.print() : this.table.printed();
-            if (begins && !byId("payment").hidden) this.view.openAll(true);
+            if (!begins) return;
+            if (!byId("payment").hidden) this.view.openAll(true);
+            for (const details of document.querySelectorAll("details")) details.open = true;
         }
     }
 

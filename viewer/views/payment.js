@@ -134,7 +134,7 @@ Viewer.payment = (() => {
             ["Asks, is asked", `${asks}, ${asked}`],
             ["Opened", payment.opened ? `entry ${standing.opening.place}, ${moment(standing.opening.at)}`
                 : `no: ${payment.refusal?.reply.text ?? "not accepted"}`],
-            request.minutes !== null && ["May take", `${request.minutes} minutes`],
+            request.minutes !== null && ["May take", request.minutes === 1 ? "1 minute" : `${request.minutes} minutes`],
             request.note && ["Note", request.note],
             request.ver === "2.0" && ["Version 2.0", `initiationMode ${request.initiationMode}, purpose ${request.purpose}`],
             payment.opened && ["Debit", leg("DEBIT")],
@@ -227,8 +227,8 @@ Viewer.payment = (() => {
                 type: "button", class: "step-row step-head", "aria-expanded": "false", "aria-controls": id,
                 "aria-label": wordsOf(entry, drawing, lanes, stands(standing)),
             },
-            el("span", { class: "when" }, el("b", {}, `E ${entry.place}`), el("span", {}, clock(entry.at)),
-                el("small", {}, since === 0 ? "" : `${since > 0 ? "+" : "−"}${Math.abs(since)} s`)),
+            el("span", { class: "when" }, el("b", {}, `E ${entry.place}`),
+                el("small", {}, since === 0 ? "" : `${since > 0 ? "+" : "−"}${Math.abs(since)} s`), el("span", {}, clock(entry.at))),
             arrows.draw(lanes, drawing),
             el("span", { class: "after" }, standsOf(standing, changed), el("span", { class: "chips" }, marksOf(entry))));
             const step = { head, body, entry };

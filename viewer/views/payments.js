@@ -53,6 +53,7 @@ Viewer.payments = (() => {
         #shown = [];
         #rows = new Map();
         #at = 0;
+        #top = 0;
         #texts = new Map();
 
         /**
@@ -73,13 +74,18 @@ Viewer.payments = (() => {
             return this.#shown;
         }
 
-        focus() {
-            this.grid.focus();
+        /** Shows the table where it was left: what is hidden forgets how far it was scrolled. */
+        show() {
+            this.grid.scrollTop = this.#top;
+            this.draw();
+            this.grid.focus({ preventScroll: true });
         }
 
-        /** Draws what is in sight; needed whenever the table comes into sight. */
+        /** Draws what is in sight. */
         draw() {
+            if (this.grid.clientHeight === 0) return;
             const top = this.grid.scrollTop;
+            this.#top = top;
             const first = Math.max(0, Math.floor(top / ROW) - SPARE);
             const last = Math.min(this.#shown.length, Math.ceil((top + this.grid.clientHeight) / ROW) + SPARE);
             this.#drawRows(first, last);
