@@ -32,8 +32,6 @@ Viewer.standing = (() => {
             this.answered = { DEBIT: false, CREDIT: false, REVERSAL: false };
             /** For each leg whether it moved the amount. */
             this.moved = { DEBIT: false, CREDIT: false, REVERSAL: false };
-            /** The last order to debit that was sent. */
-            this.debit = null;
             this.confirms = 0;
             this.confirmed = false;
         }
@@ -98,9 +96,7 @@ Viewer.standing = (() => {
         #send(entry, message) {
             switch (message.body) {
                 case "REQAUTH": return this.#goTo("ASKING", entry.at + this.#patience());
-                case "DEBIT":
-                    this.debit = message;
-                    return this.#goTo("DEBITING", entry.at + DUE_SECONDS);
+                case "DEBIT": return this.#goTo("DEBITING", entry.at + DUE_SECONDS);
                 case "CREDIT": return this.#goTo("CREDITING", entry.at + DUE_SECONDS);
                 case "REVERSAL":
                     if (this.stage !== "REVERSING") this.cause = entry.message?.code || "DEBITLATE";
@@ -139,7 +135,8 @@ Viewer.standing = (() => {
             this.outcome = { word: "FAILURE", code: stage === "REVERSING" ? this.cause : "CLOSED" };
             if (!this.moved.DEBIT || this.arrivals.REVERSAL) return null;
             this.moved.REVERSAL = true;
-            return { leg: "REVERSAL", account: this.debit.account, amount: this.debit.amount };
+            const { account, amount } = this.arrivals.DEBIT.message;
+            return { leg: "REVERSAL", account, amount };
         }
     }
 

@@ -185,7 +185,7 @@ async function checkSpoiled() {
     await goTo("whole");
     check("where they differ", await see("table", "Where the report and the entries differ"),
         ["BALANCE 1 AAAA | 69.00 | 70.00 | 38", "FLIGHT | 1.00 | 0.00 | 40"]);
-    check("both sums stand there", (await see("table", "Balances"))[0], "AAAA/1 | 100.00 | -30.00 | 70.00 | 69.00 |");
+    check("both sums stand there", (await see("table", "Balances"))[0], "AAAA/1 | 100.00 | -30.00 | 70.00 | ≠ 69.00 |");
 
     await paste(good.replace("SETTLE,T1,AAAA,PAID,30.00,\n", "SETTLE,T7,AAAA,PAID,30.00,\n"));
     await goTo("whole");
@@ -204,6 +204,11 @@ async function checkSpoiled() {
     check("no OPEN", await first(), "Line 6 isn’t in the grammar (END): the input ends before OPEN. What stands before it is shown.");
     await paste("hello\nworld\n");
     check("no journal", await first(), "Line 1, word 1 isn’t in the grammar (WORD): a journal begins with START. What stands before it is shown. hello");
+
+    await browser.click("#paste");
+    await browser.press("Escape");
+    check("a paste that is left reads nothing", await browser.run(() => [document.getElementById("paste-box").open,
+        document.getElementById("journal").hidden]), [false, false]);
 
     await paste(good.replace("M 4 AAAA SWITCH ANSWER T1 DEBIT POSTED\n", ""));
     check("a message that is missing", (await see("banners")).slice(0, 2), [
@@ -366,7 +371,19 @@ async function checkLarge() {
         "DDDD | 10,000 | 100000.00 | 12,500 | 125000.00 | 25000.00 | 25000.00"]);
     await browser.picture(path.join(out, "large-whole.png"));
     await checkFilters();
+    await checkStop(file);
     fs.rmSync(file);
+}
+
+/** A reading that is stopped shows what was read. */
+async function checkStop(file) {
+    await browser.choose("#file", file);
+    await browser.until(() => document.getElementById("progress").value > 0.1 && !document.getElementById("reading").hidden);
+    await browser.click("#stop");
+    await loaded("large.journal");
+    check("stopped", await see("banners"), ["The reading was stopped. What stands before that is shown.",
+        "The journal has no Close: payments are shown as they stand.", "The journal has no report: all sums are those of its entries."]);
+    check("stopped: what was read is shown", (await see("rows"))[0], ["L000001", "PAY", "u2@beta → u3@gamma", "10.00", "✓SUCCESS", "2024-01-01 05:30:00", "1 repeated"]);
 }
 
 /** Search and filters, over the large journal. */

@@ -25,6 +25,9 @@ Viewer.page = (() => {
 
     const size = (bytes) => (bytes < 1e6 ? `${(bytes / 1e3).toFixed(1)} kB` : `${(bytes / 1e6).toFixed(1)} MB`);
 
+    /** Goes to a payment. */
+    const goTo = ({ id }) => { location.hash = `payment=${id}`; };
+
     class Page {
         /** Counts the readings, so that a new one ends the one before. */
         #reading = 0;
@@ -35,7 +38,7 @@ Viewer.page = (() => {
         #wholeIsShown = false;
 
         constructor() {
-            this.view = new Viewer.payment.PaymentView(byId("payment"), (by) => this.#beside(by));
+            this.view = new Viewer.payment.PaymentView(byId("payment"), (payment, by) => this.#beside(payment, by), goTo);
             byId("pick").addEventListener("click", () => byId("file").click());
             byId("file").addEventListener("change", (event) => this.#picked(event.target));
             byId("stop").addEventListener("click", () => { this.#stopped = true; });
@@ -68,7 +71,10 @@ Viewer.page = (() => {
 
         #paste() {
             const box = byId("paste-box");
-            byId("paste").addEventListener("click", () => box.showModal());
+            byId("paste").addEventListener("click", () => {
+                box.returnValue = "";
+                box.showModal();
+            });
             box.addEventListener("close", () => {
                 // Blank lines round a pasted text are the hand's, not the journal's.
                 const text = byId("paste-text").value.replace(/^\s*\n/, "").trimEnd();
@@ -125,7 +131,7 @@ Viewer.page = (() => {
             const took = (performance.now() - began) / 1000;
             byId("journal-name").textContent = name;
             byId("journal-size").textContent = `${count(reader.lines)} lines, ${size(blob.size)}` +
-                (took > 0.5 ? `, read in ${took.toFixed(1)} s` : "");
+                (took > 0.5 ? `, read in ${took.toFixed(1)} s` : "") + ". Moments are at +05:30, sums in rupees.";
             this.#loaded(journal, reader);
         }
 
@@ -155,7 +161,7 @@ Viewer.page = (() => {
             this.#wholeIsShown = false;
             byId("banners").replaceChildren(...this.#banners(reader));
             this.#show("journal");
-            this.table = new Viewer.payments.PaymentsView(byId("payments"), journal, ({ id }) => { location.hash = `payment=${id}`; });
+            this.table = new Viewer.payments.PaymentsView(byId("payments"), journal, goTo);
             const only = journal.payments.size === 1 ? [...journal.payments.values()][0] : null;
             this.#payment = only;
             byId("tab-payments").textContent = `Payments (${count(journal.payments.size)})`;
@@ -234,11 +240,11 @@ Viewer.page = (() => {
             }
         }
 
-        /** Goes to the payment before or after this one, in the table's order. */
-        #beside(by) {
+        /** The payment before or after one, in the table's order. */
+        #beside(payment, by) {
             const { shown } = this.table;
-            const next = shown[shown.indexOf(this.#payment) + by];
-            if (next) location.hash = `payment=${next.id}`;
+            const at = shown.indexOf(payment);
+            return at < 0 ? null : shown[at + by] ?? null;
         }
 
         #print(begins) {

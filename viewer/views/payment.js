@@ -155,29 +155,33 @@ Viewer.payment = (() => {
 
     class PaymentView {
         #root;
-        #go;
+        #beside;
+        #open;
         #steps = [];
 
         /**
          * @param {HTMLElement} root
-         * @param {(by: number) => void} go   goes to the payment before (-1) or after (1) this one
+         * @param {(payment: Payment, by: number) => ?Payment} beside   the one before (-1) or after (1) it
+         * @param {(payment: Payment) => void} open                     called when one is chosen
          */
-        constructor(root, go) {
+        constructor(root, beside, open) {
             this.#root = root;
-            this.#go = go;
+            this.#beside = beside;
+            this.#open = open;
         }
 
         show(payment) {
             const { request } = payment;
             this.payment = payment;
             this.#steps = [];
-            const button = (label, act) => el("button", { type: "button", click: act }, label);
+            const button = (label, act) => el("button", { type: "button", click: act, disabled: !act }, label);
+            const go = (label, to) => button(label, to && (() => this.#open(to)));
             this.#root.replaceChildren(
                 el("div", { class: "payment-head" },
                     el("h3", {}, payment.id),
                     request && el("span", { class: "sum" }, `${request.kind} ${writeSum(request.amount)}`),
                     badge(outcome(payment)), chips(payment),
-                    el("span", { class: "row push" }, button("← Previous", () => this.#go(-1)), button("Next →", () => this.#go(1)))),
+                    el("span", { class: "row push" }, go("← Previous", this.#beside(payment, -1)), go("Next →", this.#beside(payment, 1)))),
                 el("dl", { class: "facts" }, factsOf(payment).map(([title, text]) =>
                     el("div", {}, el("dt", {}, title), el("dd", {}, text)))),
                 this.#reportOf(payment),
@@ -212,7 +216,7 @@ Viewer.payment = (() => {
                 list.append(this.#step(entry, payment, names, standing, after !== before));
                 before = after;
             }
-            for (const message of this.#waiting(payment)) list.append(this.#open(message, names));
+            for (const message of this.#waiting(payment)) list.append(this.#onItsWay(message, names));
             const head = el("div", { class: "step-row sequence-head" },
                 el("span", {}, "Entry"), arrows.heads(names, roles), el("span", {}, "Where it stands after it"));
             return [head, list];
@@ -250,7 +254,7 @@ Viewer.payment = (() => {
         }
 
         /** A message that is still on its way. */
-        #open(message, lanes) {
+        #onItsWay(message, lanes) {
             const drawing = {
                 shape: "waiting", again: false, sends: [], at: 0, reply: "",
                 from: lanes.indexOf(message.from), to: lanes.indexOf(message.to), label: `M${message.number} ${tell(message)}`,

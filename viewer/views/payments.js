@@ -92,37 +92,32 @@ Viewer.payments = (() => {
         }
 
         #make(journal) {
-            const select = (label, choices) => {
-                const box = el("select", { change: () => this.#filter() },
-                    choices.map(([value, title]) => el("option", { value }, title)));
-                return [box, el("label", {}, label, box)];
-            };
-            const outcomes = outcomeChoices(this.#all).map((choice) => [choice.key, `${choice.label} (${count(choice.number)})`]);
-            const labels = [];
-            const add = ([box, label]) => {
-                labels.push(label);
-                return box;
-            };
-            this.search = el("input", { type: "search", placeholder: "name, address or amount", input: () => this.#filter() });
-            this.outcome = add(select("Outcome", [["", "any"], ...outcomes]));
-            this.bank = add(select("Bank", [["", "any"], ...journal.banks.map((bank) => [bank, bank])]));
-            this.psp = add(select("PSP", [["", "any"], ...journal.psps.map((psp) => [psp, psp])]));
-            this.marked = el("input", { type: "checkbox", change: () => this.#filter() });
+            const refilter = () => this.#filter();
+            const select = (choices) => el("select", { change: refilter },
+                [["", "any"], ...choices].map(([value, title]) => el("option", { value }, title)));
+            this.search = el("input", { type: "search", placeholder: "name, address or amount", input: refilter });
+            this.outcome = select(outcomeChoices(this.#all).map(({ key, label, number }) => [key, `${label} (${count(number)})`]));
+            this.bank = select(journal.banks.map((bank) => [bank, bank]));
+            this.psp = select(journal.psps.map((psp) => [psp, psp]));
+            this.marked = el("input", { type: "checkbox", change: refilter });
             this.count = el("p", { class: "quiet", role: "status" });
             this.canvas = el("div", { class: "canvas", role: "rowgroup" });
             this.grid = el("div", {
-                class: "grid", role: "grid", tabindex: "0", "aria-label": "Payments",
-                "aria-colcount": COLUMNS.length,
+                class: "grid", role: "grid", tabindex: "0", "aria-label": "Payments", "aria-colcount": COLUMNS.length,
                 scroll: () => this.#soon(), keydown: (event) => this.#key(event), click: (event) => this.#click(event),
-            }, el("div", { role: "rowgroup", class: "grid-head" },
-                el("div", { role: "row", class: "grid-row", "aria-rowindex": "1" },
-                    COLUMNS.map((title) => el("span", { role: "columnheader" }, title)))),
-            this.canvas);
+            }, this.#head(), this.canvas);
             this.#root.replaceChildren(
                 el("form", { class: "filters", role: "search", submit: (event) => event.preventDefault() },
-                    el("label", { class: "wide" }, "Search", this.search), labels,
+                    el("label", { class: "wide" }, "Search", this.search), el("label", {}, "Outcome", this.outcome),
+                    el("label", {}, "Bank", this.bank), el("label", {}, "PSP", this.psp),
                     el("label", { class: "check" }, this.marked, "only with an item or money in flight")),
                 this.count, this.grid);
+        }
+
+        #head() {
+            return el("div", { role: "rowgroup", class: "grid-head" },
+                el("div", { role: "row", class: "grid-row", "aria-rowindex": "1" },
+                    COLUMNS.map((title) => el("span", { role: "columnheader" }, title))));
         }
 
         #soon() {

@@ -4,7 +4,7 @@
 
 Viewer.whole = (() => {
     const { el, svg, table, firstOf } = Viewer.dom;
-    const { badge, count, moment, STAGES } = Viewer.marks;
+    const { badge, chip, count, moment, STAGES } = Viewer.marks;
     const { writeSum } = Viewer.grammar;
     const { positions, items, outcomes } = Viewer.agreement;
 
@@ -54,11 +54,17 @@ Viewer.whole = (() => {
         return new Map(journal.report.filter((line) => line.row === row).map((line) => [keyOf(line), writeSum(line.amount)]));
     }
 
+    /** What the report says, told apart where the entries come to another sum. */
+    function beside(report, sum) {
+        if (report === undefined) return "–";
+        return report === writeSum(sum) ? report : chip("refused", `≠ ${report}`);
+    }
+
     function settlement(journal) {
         const nets = reported(journal, "NET", (line) => line.bank);
         const rows = [...positions(journal)].map(([bank, row]) => [
             bank, count(row.paidCount), writeSum(row.paid), count(row.receivedCount), writeSum(row.received),
-            writeSum(row.received - row.paid), nets.get(bank) ?? "–",
+            writeSum(row.received - row.paid), beside(nets.get(bank), row.received - row.paid),
         ]);
         return table("Settlement and nets", [{ title: "Bank" }, number("Paid items"), number("Paid"), number("Received items"),
             number("Received"), number("Net"), number("Net in the report")], rows);
@@ -70,10 +76,10 @@ Viewer.whole = (() => {
             const flags = [account.noDebit && "takes no debits", account.noCredit && "takes no credits"];
             const change = account.balance - BigInt(account.opening);
             return [account.account, writeSum(account.opening), `${change > 0n ? "+" : ""}${writeSum(change)}`,
-                writeSum(account.balance), ends.get(account.account) ?? "–", flags.filter(Boolean).join(", ")];
+                writeSum(account.balance), beside(ends.get(account.account), account.balance), flags.filter(Boolean).join(", ")];
         });
         return firstOf(rows, MOST, (some) => table("Balances", [{ title: "Account" }, number("At the start"), number("Change"),
-            number("At the end"), number("In the report"), { title: "" }], some));
+            number("At the end"), number("In the report"), { title: "Flags" }], some));
     }
 
     function itemTable(journal) {
