@@ -66,7 +66,7 @@ Viewer.journal = (() => {
         }
     }
 
-    /** How a reply refuses, if it does. */
+    /** Whether a reply refuses. */
     const isRefusal = (reply) => reply.word === "NO" || reply.word === "DECLINED";
 
     class Journal {
@@ -108,19 +108,17 @@ Viewer.journal = (() => {
         /** Takes a line, as the reader hands it on. */
         take(item) {
             switch (item.type) {
-                case "ENTRY": return this.#entry(item);
-                case "MESSAGE": return this.#message(item);
-                case "REPORT_LINE": return this.report.push(item);
-                case "START": this.start = item.start; return;
-                case "BANK": return this.banks.push(item.name);
-                case "PSP": return this.psps.push(item.name);
-                case "ACCOUNT":
-                    this.accounts.set(item.account, { ...item, balance: BigInt(item.opening) });
-                    return;
-                case "ADDR": this.addresses.set(item.address, item); return;
-                case "OPEN": this.isOpen = true; return;
-                case "REFUSED": return this.unheard.push({ after: this.entries.length, ...item });
-                case "REPORT_HEADER": this.hasReport = true; return;
+                case "ENTRY": this.#entry(item); break;
+                case "MESSAGE": this.#message(item); break;
+                case "REPORT_LINE": this.report.push(item); break;
+                case "START": this.start = item.start; break;
+                case "BANK": this.banks.push(item.name); break;
+                case "PSP": this.psps.push(item.name); break;
+                case "ACCOUNT": this.accounts.set(item.account, { ...item, balance: BigInt(item.opening) }); break;
+                case "ADDR": this.addresses.set(item.address, item); break;
+                case "OPEN": this.isOpen = true; break;
+                case "REFUSED": this.unheard.push(item); break;
+                case "REPORT_HEADER": this.hasReport = true; break;
             }
         }
 
@@ -165,11 +163,15 @@ Viewer.journal = (() => {
             this.#last = null;
             if (!entry) return;
             if (entry.call === "CLOSE") return this.#close(entry);
-            const id = entry.id || entry.message?.id || "";
-            if (id) this.#apply(this.#payment(id), entry);
-            else this.apart.push(entry);
+            if (entry.about) {
+                const payment = this.#payment(entry.about);
+                this.#count(payment, entry);
+                this.#apply(payment, entry);
+            } else {
+                this.apart.push(entry);
+            }
             for (const message of entry.sent) {
-                if (message.id === id) continue;
+                if (message.id === entry.about) continue;
                 this.#remark(message.line, `the entry above it isn’t about ${message.id}`);
                 this.#apply(this.#payment(message.id), entry);
             }
@@ -184,13 +186,13 @@ Viewer.journal = (() => {
             return payment;
         }
 
+        /** Lets an entry count for a payment that it is about, or sends a message about. */
         #apply(payment, entry) {
             const { standing } = payment;
             const wasOpened = payment.opened;
             if (payment.entries.at(-1) === entry) return;
             payment.entries.push(entry);
-            this.#count(payment, entry);
-            if (entry.heard?.api === "ReqPay") this.#ask(payment, entry);
+            if (entry.about === payment.id && entry.heard?.api === "ReqPay") this.#ask(payment, entry);
             this.#move(standing, entry, () => standing.apply(payment.id, entry));
             if (!wasOpened && payment.opened) {
                 this.opened.push(payment);
@@ -212,6 +214,7 @@ Viewer.journal = (() => {
             payment.payeeAccount = this.addresses.get(payment.request.payee)?.account ?? "";
         }
 
+        /** Counts what befell the entry's message. */
         #count(payment, entry) {
             const { counts } = this;
             const { message } = entry;
@@ -246,7 +249,7 @@ Viewer.journal = (() => {
             this.closed = entry;
             for (const payment of this.payments.values()) {
                 const { standing } = payment;
-                if (standing.stage === "NONE" || standing.outcome) continue;
+                if (!payment.opened || standing.outcome) continue;
                 payment.entries.push(entry);
                 this.#move(standing, entry, () => standing.apply(payment.id, entry));
             }
@@ -270,5 +273,5 @@ Viewer.journal = (() => {
         }
     }
 
-    return { Journal, Payment, isRefusal };
+    return { Journal, isRefusal };
 })();

@@ -56,14 +56,15 @@ Viewer.standing = (() => {
         }
 
         /**
-         * Takes one more entry of this payment's.
+         * Takes one more entry that is about this payment, or sends a message about it.
          * @param {string} id    the payment's name
          * @returns {?Move}      what it moved, if anything
          */
         apply(id, entry) {
             if (entry.call === "CLOSE") return this.#close();
-            const move = entry.call === "DELIVER" ? this.#deliver(entry) : null;
-            if (entry.call === "HEAR" && entry.reply.word === "OK") this.#hear(entry);
+            const isOwn = entry.about === id;
+            const move = isOwn && entry.call === "DELIVER" ? this.#deliver(entry) : null;
+            if (isOwn && entry.call === "HEAR" && entry.reply.word === "OK") this.#hear(entry);
             for (const message of entry.sent) if (message.id === id) this.#send(entry, message);
             return move;
         }
@@ -81,7 +82,6 @@ Viewer.standing = (() => {
 
         #deliver(entry) {
             const { message, reply } = entry;
-            if (!message) return null; // no line before it is that message
             if (message.body === "CONFIRMED" && reply.word === "OK") this.#confirm();
             if (message.body === "ANSWER" && reply.word === "OK") this.answered[message.leg] = true;
             const isOrder = message.body === message.leg;
@@ -126,7 +126,7 @@ Viewer.standing = (() => {
         #close() {
             const { stage } = this;
             this.due = null;
-            if (stage === "NONE" || this.outcome) return null;
+            if (!this.opening || this.outcome) return null;
             this.stage = "ENDED";
             if (stage === "CREDITING") {
                 this.outcome = { word: "DEEMED", code: "" };

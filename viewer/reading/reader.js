@@ -129,6 +129,11 @@ Viewer.reader = (() => {
         get type() {
             return "ENTRY";
         }
+
+        /** The name of the transaction that the call is about, or the empty text. */
+        get about() {
+            return this.id || (this.message?.id ?? "");
+        }
     }
 
     /** The text of a HEAR line's message. */
@@ -167,7 +172,7 @@ Viewer.reader = (() => {
                 entry.psp = once(word(words, 6, G.isPspName, "name of a PSP"));
                 entry.heard = Viewer.messages.read(words.slice(6).join(" "));
                 if (!entry.heard) throw value(7, "the message isn’t in its written form");
-                entry.id = entry.heard.id;
+                entry.id = once(entry.heard.id);
                 return 9;
             case "BAD":
                 count(words, 8);
@@ -184,7 +189,7 @@ Viewer.reader = (() => {
                 return 8;
             case "LATE":
                 count(words, 6);
-                entry.id = word(words, 6, G.isTxnId, "name of a transaction");
+                entry.id = once(word(words, 6, G.isTxnId, "name of a transaction"));
                 return 8;
             case "CLOSE":
                 count(words, 5);
@@ -240,7 +245,7 @@ Viewer.reader = (() => {
     }
 
     function readId(message, words) {
-        message.id = word(words, 6, G.isTxnId, "name of a transaction");
+        message.id = once(word(words, 6, G.isTxnId, "name of a transaction"));
     }
 
     function readAsked(message, words) {

@@ -214,6 +214,11 @@ async function checkSpoiled() {
     check("a message that is missing", (await see("banners")).slice(0, 2), [
         "Line 18: no line before it is message 4. Sums may not hold.", "Line 19: message 5 stands where 4 comes next. Sums may not hold."]);
     check("a delivery of no message", (await see("steps"))[4], "E 5 05:30:00 DELIVER 4, which no line is = OK : Crediting");
+    await paste(good.replace("M 3 SWITCH AAAA DEBIT T1", "M 3 SWITCH AAAA DEBIT T2"));
+    check("a message of another payment", await first(), "Line 16: the entry above it isn’t about T2. Sums may not hold.");
+    check("it is shown there too", (await see("rows")).map(([id, , , , outcome]) => `${id} ${outcome}`), ["T1 ✓SUCCESS", "T2 –not opened"]);
+    await goTo("whole");
+    check("each delivery counts once", await browser.run(() => document.querySelectorAll(".card dd.quiet")[1].textContent), "9 deliveries");
     await paste(good.replace("E 11 0", "# FULL 2097152\nE 11 0"));
     await goTo("whole");
     check("calls that found no room", await see("table", "Lines about no payment"), ["30 | # FULL 2097152", "31 | E 11 0 1704067200 CLOSE = CLOSED"]);
@@ -329,27 +334,27 @@ async function checkLarge() {
     check("large: banner", await see("banners"), ["✓ The report’s 145,045 lines are what the entries come to."]);
     await browser.picture(path.join(out, "large-payments.png"));
 
-    // Frames while it scrolls: the rows of each place stand there one frame later.
+    // The rows of each place stand there one frame after it was scrolled to, and take little to draw.
+    const places = Math.ceil(50_000 / 997);
+    const idle = await busy();
     const scrolled = await browser.run(async () => {
         const grid = document.querySelector(".grid");
         const frame = () => new Promise((go) => requestAnimationFrame(go));
-        const times = [];
         let right = true;
         for (let place = 0; place < 50_000; place += 997) {
-            const start = performance.now();
             grid.scrollTop = place * 34;
             grid.dispatchEvent(new Event("scroll"));
             await frame();
             await frame();
-            times.push(performance.now() - start);
             right &&= [...document.querySelectorAll(".canvas .grid-row")].some((row) =>
                 row.firstChild.textContent === `L${String(Math.min(place + 1, 49_990)).padStart(6, "0")}`);
         }
-        times.sort((one, other) => one - other);
-        return { right, rows: document.querySelectorAll(".canvas .grid-row").length, middle: times[times.length >> 1] };
+        return { right, rows: document.querySelectorAll(".canvas .grid-row").length };
     });
+    const each = ((await busy()) - idle) / places * 1000;
+    console.log(`viewer: a scroll to another place of its table: ${each.toFixed(0)} ms of processor time`);
     check("large: the rows of each place are there", [scrolled.right, scrolled.rows < 120], [true, true]);
-    check("large: scrolling has no delay", scrolled.middle < 100 || scrolled.middle, true);
+    check("large: scrolling has no delay", each < 100 || each, true);
 
     await browser.run(() => { document.querySelector(".grid").scrollTop = 30_000 * 34; });
     await browser.until(() => document.getElementById("payment-row-30001") !== null);

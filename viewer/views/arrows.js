@@ -66,14 +66,14 @@ Viewer.arrows = (() => {
         return words(x(at) + (right ? 8 : -8), y, said, "sends", right ? "start" : "end");
     }
 
-    function head(x, way, kind = "head") {
-        return svg("path", { class: kind, d: `M${x} ${LINE} l${-10 * way} -5 v10 z` });
+    function head(x, way) {
+        return svg("path", { class: "head", d: `M${x} ${LINE} l${-10 * way} -5 v10 z` });
     }
 
     function arrow(from, to, { shape, label, reply, again }) {
         const way = to > from ? 1 : -1;
         const middle = (from + to) / 2;
-        const end = shape === "lost" ? middle - 8 * way : shape === "refused" ? to - 15 * way : shape === "waiting" ? middle : to;
+        const end = { told: to, refused: to - 15 * way, lost: middle - 8 * way, waiting: middle }[shape];
         const line = svg("line", { class: again ? "arrow is-again" : "arrow", x1: from, x2: end, y1: LINE, y2: LINE });
         const ends = {
             told: () => [head(to, way), again && head(to - 9 * way, way)],
@@ -124,5 +124,5 @@ Viewer.arrows = (() => {
         return svg("svg", { class: `strip is-${shape}`, width: 58, height: 26, viewBox: "0 15 58 26", "aria-hidden": "true", focusable: "false" }, parts);
     }
 
-    return { draw, heads, sample, width };
+    return { draw, heads, sample };
 })();

@@ -43,6 +43,7 @@ Viewer.page = (() => {
             byId("file").addEventListener("change", (event) => this.#picked(event.target));
             byId("stop").addEventListener("click", () => { this.#stopped = true; });
             addEventListener("hashchange", () => this.#route());
+            addEventListener("resize", () => this.table?.draw());
             byId("payment").addEventListener("keydown", (event) => { if (event.key === "Escape") location.hash = "payments"; });
             addEventListener("beforeprint", () => this.#print(true));
             addEventListener("afterprint", () => this.#print(false));
@@ -150,6 +151,7 @@ Viewer.page = (() => {
 
         #unreadable(name, fault) {
             this.#show("welcome");
+            document.querySelector("#welcome > .banner")?.remove();
             byId("welcome").prepend(el("p", { class: "banner bad", role: "alert" }, `${name} can’t be read: ${fault.message}`));
         }
 
@@ -230,7 +232,7 @@ Viewer.page = (() => {
                 tab.href = `#payment=${this.#payment.id}`;
             }
             if (shown === "payment") {
-                if (this.view.payment !== this.#payment) this.view.show(this.#payment);
+                this.view.show(this.#payment);
                 this.view.focus();
             }
             if (shown === "payments") this.table.show();

@@ -39,7 +39,7 @@ Viewer.payment = (() => {
                 other(message.to);
             }
         }
-        const short = (role) => role.replace("payer’s PSP and payee’s PSP", "both sides’ PSP").replace("payer’s bank and payee’s bank", "both sides’ bank");
+        const short = (role) => role.replace(/^payer’s (PSP|bank) and payee’s .*/, "both sides’ $1");
         return { names: [...roles.keys()], roles: [...roles.values()].map(short) };
     }
 
@@ -47,7 +47,7 @@ Viewer.payment = (() => {
     function marksOf(entry) {
         const { reply } = entry;
         return [
-            entry.call === "LOSE" && chip("lost", "✕ lost"),
+            reply.word === "LOST" && chip("lost", "✕ lost"),
             entry.call === "LATE" && chip("late", reply.word === "DONE" ? "late" : "not due"),
             entry.again > 0 && chip("repeated", `» repeated, delivery ${entry.again + 1}`),
             entry.echo && chip("repeated", "» says it again"),
@@ -74,7 +74,7 @@ Viewer.payment = (() => {
             case "LOSE":
                 return { ...base, shape: reply.word === "LOST" ? "lost" : shape, from: at(message.from), to: at(message.to), label: `M${message.number} ${tell(message)}` };
             case "LATE":
-                return { ...base, shape: "late", from: lanes.length, label: "LATE" };
+                return { ...base, shape: "late", from: lanes.length, label: "LATE" }; // its words stand to the right
             default:
                 return { ...base, shape: "close", label: "CLOSE" };
         }
@@ -82,8 +82,9 @@ Viewer.payment = (() => {
 
     /** A step in words, for those who hear the page. */
     function wordsOf(entry, drawing, lanes, after) {
-        const way = drawing.shape === "late" || drawing.shape === "close" ? "" : `, ${lanes[drawing.from]} to ${lanes[drawing.to]}`;
-        const befell = { lost: ", lost", refused: ", refused", late: "" }[drawing.shape] ?? "";
+        const isArrow = ["told", "refused", "lost"].includes(drawing.shape);
+        const way = isArrow ? `, ${lanes[drawing.from]} to ${lanes[drawing.to]}` : "";
+        const befell = isArrow && drawing.shape !== "told" ? `, ${drawing.shape}` : "";
         const sends = drawing.sends.map((said) => `; sends ${said.replace("→", "to")}`).join("");
         return `Entry ${entry.place}, ${moment(entry.at)}: ${drawing.label}${way}${befell}${drawing.again ? ", repeated" : ""}, ${drawing.reply}${sends}. Then: ${after}`;
     }
