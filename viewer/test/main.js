@@ -145,6 +145,20 @@ async function checkEverything() {
     check("a message is no markup", [opened.markup, opened.title], [0, "Multegzi: see a journal"]);
 }
 
+/** Each message that the page on formats writes out is read, and one with both accounts. */
+async function checkMessages() {
+    const formats = fs.readFileSync(path.join(viewer, "..", "docs", "FORMATS.md"), "utf8");
+    const written = formats.slice(formats.indexOf("### The written form"), formats.indexOf("### Messages that are sent"));
+    const account = (bank, number) => `{"Detail":[{"name":"IFSC","value":"${bank}0000000"},{"name":"ACNUM","value":"${number}"}],"addrType":"ACCOUNT"}`;
+    const messages = written.split("\n").filter((line) => line.startsWith("{\"")).concat(
+        `{"RespAuthDetails":{"Head":{"msgId":"A2","orgId":"alpha","ts":"2024-01-01T05:30:00+05:30","ver":"2.0"},"Payees":{"Payee":[{"Ac":${account("BBBB", "2")}}]},"Payer":{"Ac":${account("AAAA", "1")},"Amount":{"curr":"INR","value":"30.00"}},"Resp":{"reqMsgId":"M1","result":"SUCCESS"},"Txn":{"id":"T1"}}}`);
+    const setup = textOf("one_payment").split("\n").slice(0, 10);
+    await paste([...setup, ...messages.map((json, at) => `E ${at + 1} 0 1704067200 HEAR alpha ${json} = NO FULL`)].join("\n"));
+    check("each written message is read", [messages.length > 6, (await see("banners")).length], [true, 2]); // no Close, no report
+    await goTo("whole");
+    check("each is an entry", (await see("cards")).Entries, String(messages.length));
+}
+
 /** Journals that are cut, spoiled, or say something else in their report. */
 async function checkSpoiled() {
     const good = textOf("one_payment");
@@ -297,6 +311,12 @@ async function checkLooks() {
     await drop("load.journal", Buffer.from(large(1000)));
     await browser.run(() => document.activeElement.blur());
     await browser.picture(path.join(out, "light-payments.png"));
+    await browser.run(() => dispatchEvent(new Event("beforeprint")));
+    check("what is printed has all rows in their order", await browser.run(() =>
+        [...document.querySelectorAll(".canvas .grid-row")].every((row, at) => row.firstChild.textContent === `L${String(at + 1).padStart(6, "0")}`)
+            && document.querySelectorAll(".canvas .grid-row").length), 1000);
+    await browser.run(() => dispatchEvent(new Event("afterprint")));
+    check("and then those in sight", await browser.run(() => document.querySelectorAll(".canvas .grid-row").length < 100), true);
     await browser.look({ width: 640, height: 1200 });
     await browser.click(".canvas .grid-row", "L000003");
     await browser.until(() => location.hash === "#payment=L000003");
@@ -429,7 +449,7 @@ async function main() {
     fs.mkdirSync(out);
     await browser.open(pathToFileURL(path.join(viewer, "index.html")).href);
     await browser.look();
-    for (const part of [checkExamples, checkEverything, checkSpoiled, checkKeys, checkLooks, checkLarge]) await part();
+    for (const part of [checkExamples, checkEverything, checkMessages, checkSpoiled, checkKeys, checkLooks, checkLarge]) await part();
     checkSilence();
     if (keep === "keep") {
         for (const name of ["payment", "payments"]) {

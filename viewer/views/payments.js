@@ -243,15 +243,15 @@ Viewer.payments = (() => {
             else this.grid.removeAttribute("aria-activedescendant");
         }
 
-        /** Makes the rows that are printed. */
+        /** Makes the rows that are printed, in their order: on paper they stand one below the other. */
         print() {
+            this.canvas.replaceChildren();
+            this.#rows.clear();
             this.#drawRows(0, Math.min(this.#shown.length, PRINTED));
-            if (this.#shown.length > PRINTED) this.canvas.style.height = `${PRINTED * ROW}px`;
         }
 
         /** Goes back to the rows in sight. */
         printed() {
-            this.canvas.style.height = `${this.#shown.length * ROW}px`;
             this.draw();
         }
     }
