@@ -171,7 +171,10 @@ Viewer.journal = (() => {
                 this.apart.push(entry);
             }
             for (const message of entry.sent) {
-                if (message.id === entry.about) continue;
+                if (message.id === entry.about) {
+                    message.id = entry.about; // one text for all that is about a payment takes less memory
+                    continue;
+                }
                 this.#remark(message.line, `the entry above it isn’t about ${message.id}`);
                 this.#apply(this.#payment(message.id), entry);
             }

@@ -83,7 +83,7 @@ Viewer.reader = (() => {
         return outcome && new Reply(text, outcome.code, outcome);
     }
 
-    /** Names that many lines give, each kept once. */
+    /** Words and names that many lines have, each kept once. */
     const names = new Map();
 
     function once(text) {
@@ -172,7 +172,7 @@ Viewer.reader = (() => {
                 entry.psp = once(word(words, 6, G.isPspName, "name of a PSP"));
                 entry.heard = Viewer.messages.read(words.slice(6).join(" "));
                 if (!entry.heard) throw value(7, "the message isn’t in its written form");
-                entry.id = once(entry.heard.id);
+                entry.id = entry.heard.id;
                 return 9;
             case "BAD":
                 count(words, 8);
@@ -189,7 +189,7 @@ Viewer.reader = (() => {
                 return 8;
             case "LATE":
                 count(words, 6);
-                entry.id = once(word(words, 6, G.isTxnId, "name of a transaction"));
+                entry.id = word(words, 6, G.isTxnId, "name of a transaction");
                 return 8;
             case "CLOSE":
                 count(words, 5);
@@ -245,7 +245,7 @@ Viewer.reader = (() => {
     }
 
     function readId(message, words) {
-        message.id = once(word(words, 6, G.isTxnId, "name of a transaction"));
+        message.id = word(words, 6, G.isTxnId, "name of a transaction");
     }
 
     function readAsked(message, words) {

@@ -126,8 +126,9 @@ class Browser {
         });
     }
 
-    /** Writes a picture of the window. */
+    /** Writes a picture of the window, with nothing under the mouse. */
     async picture(file) {
+        await this.call("Input.dispatchMouseEvent", { type: "mouseMoved", x: 1, y: 1 });
         const { data } = await this.call("Page.captureScreenshot", { format: "png" });
         fs.writeFileSync(file, Buffer.from(data, "base64"));
     }
