@@ -86,6 +86,7 @@ const PAYMENTS = {
             E 11 05:30:30 SWITCH>beta M8 CONFIRM DEEMED = TOLD : DEEMED
             E 12 05:30:30 beta>SWITCH M9 CONFIRMED = OK : DEEMED`),
         shapes: { again: "", refused: "E 6", lost: "E 7", late: "E 8", waiting: "" },
+        due: ["E 1 due 05:30:30", "E 3 due 05:30:30", "E 4 due 05:30:30, 30.00 in flight", "E 8 due 05:31:00, 30.00 in flight", "E 12 30.00 in flight, confirmed"],
         report: ["OUTCOME,T1,,DEEMED,30.00,", "SETTLE,T1,AAAA,PAID,30.00,", "SETTLE,T1,BBBB,RECEIVED,30.00,", "RECON,T1,BBBB,,30.00,"],
         agrees: 9, nets: NETS_OF_30, items: ["T1 | BBBB | 30.00 | AAAA"],
         balances: ["AAAA/1 | 100.00 | -30.00 | 70.00 | 70.00 |", "BBBB/1 | 5.00 | 0.00 | 5.00 | 5.00 | takes no credits"],
@@ -123,6 +124,7 @@ const PAYMENTS = {
             E 9 05:30:59 SWITCH>alpha M7 CONFIRM SUCCESS = TOLD : SUCCESS
             E 10 05:30:59 alpha>SWITCH M8 CONFIRMED = OK : SUCCESS`),
         facts: ["Asks, is asked: beta, alpha", "May take: 1 minute"],
+        due: ["E 1 due 05:31:00", "E 3 due 05:31:29", "E 6 due 05:31:29"],
         report: ["OUTCOME,C1,,SUCCESS,30.00,", "SETTLE,C1,AAAA,PAID,30.00,", "SETTLE,C1,BBBB,RECEIVED,30.00,"],
         agrees: 8, nets: NETS_OF_30, balances: MOVED_30, items: null,
         flight: "Most: 30.00 after entry 4. At the end: 0.00.",
@@ -214,6 +216,20 @@ const PAYMENTS = {
         agrees: 8, nets: NETS_OF_30, balances: MOVED_30, items: null,
         flight: "Most: 30.00 after entry 4. At the end: 0.00.",
         cards: { Entries: "12", Messages: "11", Late: "3" },
+    },
+    closed_crediting: {
+        // The Close comes while the credit is out: deemed, and an item, since it never came to the bank.
+        row: ["T1", "PAY", "ann@alpha → bob@beta", "30.00", "≈DEEMED", "2024-01-01 05:30:00", "◆ item ▲ in flight"],
+        marks: ["≈DEEMED", "◆ item", "▲ in flight"],
+        steps: lines(`${CREDITING}
+            E 6 05:30:00 CLOSE = CLOSED : DEEMED
+            M 5 SWITCH>BBBB M5 CREDIT 30.00 [○ never delivered]`),
+        facts: ["Debit: POSTED, entry 4", "Credit: the order didn’t arrive"],
+        report: ["OUTCOME,T1,,DEEMED,30.00,", "SETTLE,T1,AAAA,PAID,30.00,", "SETTLE,T1,BBBB,RECEIVED,30.00,", "RECON,T1,BBBB,,30.00,"],
+        agrees: 9, nets: NETS_OF_30, items: ["T1 | BBBB | 30.00 | AAAA"],
+        balances: ["AAAA/1 | 100.00 | -30.00 | 70.00 | 70.00 |", "BBBB/1 | 5.00 | 0.00 | 5.00 | 5.00 |"],
+        flight: "Most: 30.00 after entry 4. At the end: 30.00.",
+        cards: { Entries: "6", Messages: "5", Items: "1", "In flight": "30.00" },
     },
     closed_early: {
         // The Close ends the payment while its debit is out, and the debit comes back.

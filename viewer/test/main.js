@@ -206,6 +206,10 @@ async function checkSpoiled() {
     check("lines that are missing or too many", await see("table", "Where the report and the entries differ"),
         ["SETTLE T7 AAAA PAID | 30.00 | no such line | 34", "SETTLE T1 AAAA PAID | no such line | 30.00 | –"]);
 
+    await paste(textOf("closed_early").replace("FAILURE,30.00,CLOSED", "FAILURE,30.00,FUNDS"));
+    check("another code is told", await first(), "The report and the entries differ in 1 line. First: OUTCOME T1: " +
+        "the report says FAILURE FUNDS 30.00, the entries come to FAILURE CLOSED 30.00. See all");
+
     await paste(lines.slice(0, 30).join("\n"));
     check("no report", await see("banners"), ["The journal has no report: all sums are those of its entries."]);
     await paste(lines.slice(0, 17).join("\n"));

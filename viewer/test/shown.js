@@ -23,7 +23,10 @@ const steps = () => {
         const arrow = step.querySelector("line.arrow");
         const ends = arrow && ["x1", "x2"].map((end) => Number(arrow.getAttribute(end)));
         const broken = step.matches(".is-lost, .is-waiting");
-        const way = ends ? `${at(ends[0])}>${at(broken ? 2 * ends[1] - ends[0] : ends[1])}` : "";
+        // A head's base lies before its tip, seen from where the arrow comes from.
+        const base = Number(/^M\S+ \S+ l(\S+)/.exec(step.querySelector("path.head")?.getAttribute("d"))?.[1] ?? 0);
+        const tip = base === 0 || base < 0 === ends[0] < ends[1] ? ">" : " against ";
+        const way = ends ? `${at(ends[0])}${tip}${at(broken ? 2 * ends[1] - ends[0] : ends[1])}` : "";
         const chips = [...step.querySelectorAll(".chip")].map((chip) => chip.textContent);
         const parts = [text(".when b"), text(".when > span"), way, text("text.label"), text("text.reply")];
         const stands = text(".stands b");
