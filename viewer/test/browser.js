@@ -19,11 +19,11 @@ class Browser {
         /** What the page told by itself: requests, exceptions, entries of its log. */
         this.events = [];
         this.profile = fs.mkdtempSync(path.join(os.tmpdir(), "viewer-"));
-        const asRoot = process.getuid?.() === 0 ? ["--no-sandbox"] : [];
+        // Without a sandbox, which a container may not allow: all that is opened is this repository's page.
         this.child = spawn(program, [
             "--headless=new", "--remote-debugging-pipe", `--user-data-dir=${this.profile}`, "--no-first-run",
             "--disable-gpu", "--disable-dev-shm-usage", "--hide-scrollbars", "--force-device-scale-factor=1",
-            "--disable-background-networking", "--disable-component-update", ...asRoot, "about:blank",
+            "--disable-background-networking", "--disable-component-update", "--no-sandbox", "about:blank",
         ], { stdio: ["ignore", "ignore", "ignore", "pipe", "pipe"] });
         this.child.stdio[4].setEncoding("utf8").on("data", (text) => this.#hear(text));
         this.child.stdio[3].on("error", () => this.#end(new Error("the browser doesn't listen")));
