@@ -17,6 +17,7 @@ use Rattle.upi_base.specs.declared.setup.Account.{Account}
 use Rattle.upi_base.specs.declared.setup.Listing.{Listing}
 use Rattle.upi_base.specs.declared.setup.SetupLine.{SetupLine}
 use Rattle.upi_base.specs.declared.setup.SetupLine.TheVariants as line
+use Rattle.upi_base.specs.declared.fault.NoMemory.{NoMemory}
 use Rattle.upi_base.specs.declared.fault.Why.{Why}
 use Rattle.upi_base.specs.declared.fault.Why.TheVariants as why
 use Rattle.upi_base.specs.Lists.{when}
@@ -29,7 +30,7 @@ use Rattle.indexmap.specs.IndexSet.{insert_key}
 use Rattle.indexmap.proofs.CallerLemmas.{insert_entry-new}
 use Rattle.vpa_directory.specs.declared.fault.SetupFault.{SetupFault}
 use Rattle.vpa_directory.specs.declared.fault.SetupFault.TheVariants as fault
-use Rattle.vpa_directory.specs.Faults.{told, IsFirstRefused, IsRefusal}
+use Rattle.vpa_directory.specs.Faults.{told, IsRefusal}
 use Rattle.vpa_directory.specs.Tables.{BanksFit, PspsFit, AccountsFit, AddressesFit, IsDirectory, bank_refusal, psp_refusal, account_refusal, address_refusal}
 
 -- ---- what is the same either way round
@@ -190,15 +191,11 @@ address_entered lines new psps accounts addresses room entries addr listing h fr
 
 -- ---- a directory with one line more, or as it was
 
--- what a line that was judged has made of the lines
-pub grows : (lines new : Setup) (l : SetupLine) (r : Result (Unit {0}) SetupFault) → MatchOption (setup_fault lines l) (IsOkUnless r fault.NoMemory) (λ w. r ≡ Err (told w)) → OnOk r (new ≡ lines ++ l ∷ []) → OnErr r (new ≡ lines)
+-- what a line that was accepted has made of the lines
+pub grows : (lines new : Setup) (l : SetupLine) (r : Result (Unit {0}) NoMemory) → setup_fault lines l ≡ None → OnOk r (new ≡ lines ++ l ∷ []) → OnErr r (new ≡ lines)
     → (new ≡ lines) ⊎ ((new ≡ lines ++ l ∷ []) × (setup_fault lines l ≡ None))
-grows lines new l (Err e) refused ok err = inl err
-grows lines new l (Ok x) refused ok err = inr (ok, go (setup_fault lines l) refused)
-  where
-    go : (o : Option Why) → MatchOption o (IsOkUnless {E = SetupFault} (Ok x) fault.NoMemory) (λ w. Ok x ≡ Err (told w)) → o ≡ None
-    go None h = refl
-    go (Some w) h = absurd cc
+grows lines new l (Err e) free ok err = inl err
+grows lines new l (Ok x) free ok err = inr (ok, free)
 
 module _ (lines new : Setup) (banks psps : List Text) (accounts : List AccountRef) (addresses : List (Text × Listing)) (h : IsDirectory lines banks psps accounts addresses) where
   accepted_still : (l : SetupLine) → (new ≡ lines) ⊎ ((new ≡ lines ++ l ∷ []) × (setup_fault lines l ≡ None)) → is_setup new ≡ true
@@ -291,6 +288,7 @@ refusal_of lines done rest l at e are place before refused = go (setup_fault don
     go : (o : Option Why) → setup_fault done l ≡ o → MatchOption o (IsOkUnless {T = Unit {0}} (Err e) fault.NoMemory) (λ w. ◌≡◌ {A = Result (Unit {0}) SetupFault} (Err e) (Err (told w))) → IsRefusal lines (record { at = at + 1; fault = e })
     go None is h = inl h
     go (Some w) is h = inr (record {
+      counted = omega arith;
       before = ap is_setup front ∙ before;
       line = l;
       there = there;

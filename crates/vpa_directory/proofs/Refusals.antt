@@ -1,9 +1,8 @@
 -- What the tables say of a line is what the lines before it say.
-use Rattle.std.proofs.Common.{◌≡◌, Bool, true, false, not, cond, nat_le, List, Option, Some, None, refl, sym, ap, ◌∙◌}
+use Rattle.std.proofs.Common.{◌≡◌, not, cond, nat_le, List, Option, Some, None, refl, ap, ◌∙◌}
 use Rattle.std.specs.Prelude.{is_none, is_some}
 use Rattle.upi_base.specs.Names.{Text, Setup}
 use Rattle.upi_base.specs.declared.setup.AccountRef.{AccountRef}
-use Rattle.upi_base.specs.declared.setup.Account.{Account}
 use Rattle.upi_base.specs.declared.setup.Listing.{Listing}
 use Rattle.upi_base.specs.declared.fault.Why.TheVariants as why
 use Rattle.upi_base.specs.declared.limits.TheConstants.{MAX_ACCOUNTS, MAX_ADDRESSES, MAX_BANKS, MAX_PSPS}

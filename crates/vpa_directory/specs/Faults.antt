@@ -1,5 +1,5 @@
 -- Why a setup line is refused, as a directory tells it.
-use Rattle.std.specs.Prelude.{ℕ, ◌≡◌, ◌-◌, ◌⊎◌, true, List, take, slice_get, Some}
+use Rattle.std.specs.Prelude.{ℕ, ◌≡◌, ◌-◌, ◌≤◌, ◌⊎◌, true, take, slice_get, Some}
 use Rattle.upi_base.specs.Names.{Setup}
 use Rattle.upi_base.specs.declared.setup.SetupLine.{SetupLine}
 use Rattle.upi_base.specs.declared.fault.Why.{Why}
@@ -19,6 +19,7 @@ told _ = fault.Limit
 
 -- the line at this place, counted from 1, is the first that is refused, and this is the reason
 pub record IsFirstRefused (lines : Setup) (place : ℕ) (reason : SetupFault) : Type 0 where
+  pub counted : 1 ≤ place
   pub before : is_setup (take (place - 1) lines) ≡ true
   pub line : SetupLine
   pub there : slice_get lines (place - 1) ≡ Some line

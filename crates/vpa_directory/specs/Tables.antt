@@ -1,5 +1,5 @@
 -- What each hashed table has of the lines of a setup.
-use Rattle.std.specs.Prelude.{ℕ, ◌≡◌, nat_le, true, not, if◌then◌else◌, List, length, Option, Some, None, is_some}
+use Rattle.std.specs.Prelude.{◌≡◌, nat_le, true, not, if◌then◌else◌, List, length, Option, Some, None, is_some}
 use Rattle.std.specs.List.{list_any, count_by}
 use Rattle.std.specs.Map.{lookup}
 use Rattle.std.specs.Str.{bytes_eq}

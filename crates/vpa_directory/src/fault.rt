@@ -3,7 +3,6 @@ ghost use Rattle.std.specs.Prelude.{◌≡◌};
 ghost use Rattle.vpa_directory.specs.declared.fault.SetupFault.TheVariants as fault;
 ghost use Rattle.vpa_directory.specs.Faults.{told as told_of};
 
-use std::alloc::AllocError;
 use upi_base::{NoMemory, Why};
 
 /// Why a line of a setup is refused behind the lines before it.
@@ -36,14 +35,6 @@ impl From<NoMemory> for SetupFault {
     ghost from_gives = { λ _ r. r ≡ fault.NoMemory };
 
     fn from(_: NoMemory) -> SetupFault {
-        SetupFault::NoMemory
-    }
-}
-
-impl From<AllocError> for SetupFault {
-    ghost from_gives = { λ _ r. r ≡ fault.NoMemory };
-
-    fn from(_: AllocError) -> SetupFault {
         SetupFault::NoMemory
     }
 }

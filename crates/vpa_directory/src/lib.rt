@@ -5,7 +5,7 @@
 //! those before it.
 #![tactic(auto)]
 
-ghost use Rattle.std.specs.Prelude.{◌≡◌, ◌++◌, ◌∷◌, [], true, MatchOption, IsOkUnless, Err, IfOk, IfErr, OnOk, OnErr};
+ghost use Rattle.std.specs.Prelude.{◌≡◌, ◌++◌, ◌∷◌, [], true, None, MatchOption, IsOkUnless, Err, IfOk, IfErr, OnOk, OnErr};
 ghost use Rattle.std.specs.Option.{option_map, option_copied};
 ghost use Rattle.upi_base.specs.declared.setup.Listing.{Listing as AListing};
 ghost use Rattle.upi_base.specs.Setup.{setup_fault, listing_at, has_psp as has_psp_of, is_setup};
@@ -17,11 +17,14 @@ mod tables;
 pub use fault::{At, SetupFault};
 use indexmap::{IndexMap, IndexSet};
 use std::alloc::Global;
-use std::hash::RandomState;
 use std::marker::Model;
-use tables::{Accounts, Addresses, Banks, Psps, add_account, add_address, add_bank, add_psp};
+use tables::{
+    Accounts, Addresses, Banks, Psps, account_refusal, address_refusal, bank_refusal, psp_refusal,
+    push_account, push_address, push_bank, push_psp,
+};
 use upi_base::{
-    Account, AccountRef, Addr, Listing, Moment, Policy, PspName, Setup, SetupLine, SetupLines,
+    Account, AccountRef, Addr, Listing, Moment, NoMemory, Policy, PspName, Setup, SetupLine,
+    SetupLines, Why,
 };
 
 /// A setup whose lines were accepted, with tables to look up what they say.
@@ -48,8 +51,9 @@ impl Model for Directory {
 impl Directory {
     /// A directory with no lines, that starts at this moment. It takes no memory.
     ///
-    /// Names are hashed with `hashes`, so whoever chooses them can't choose them to collide.
-    pub fn new(alloc: Global, hashes: RandomState, start: Moment) -> Directory
+    /// Names are hashed with a fixed seed: whoever writes the lines can choose names that collide,
+    /// and so make this directory slow. Who only looks names up can't.
+    pub fn new(alloc: Global, start: Moment) -> Directory
         ensures { result ≡ record { start = start; lines = [] } }
     {
         Directory {
@@ -57,25 +61,46 @@ impl Directory {
                 start,
                 lines: SetupLines::new(alloc),
             },
-            banks: IndexSet::with_hasher(alloc, hashes),
-            psps: IndexSet::with_hasher(alloc, hashes),
-            accounts: IndexSet::with_hasher(alloc, hashes),
-            addresses: IndexMap::with_hasher(alloc, hashes),
+            banks: IndexSet::new(alloc),
+            psps: IndexSet::new(alloc),
+            accounts: IndexSet::new(alloc),
+            addresses: IndexMap::new(alloc),
         }
     }
 
-    /// Adds a line behind the others, where it is accepted there: else it tells the first reason of
-    /// `docs/DEFINITIONS.md`, "The setup". A refusal changes nothing.
-    pub fn add(&mut self, line: SetupLine) -> Result<(), SetupFault>
-        ensures refused { MatchOption (setup_fault self.old.lines line)
-            (IsOkUnless result SetupFault.NoMemory) (λ why. result ≡ Err (told why)) }
+    /// Why a line is refused behind the others, by the first reason of `docs/DEFINITIONS.md`, "The
+    /// setup"; `None` exactly where it is accepted there.
+    pub fn refusal(&self, line: &SetupLine) -> Option<Why>
+        ensures { result ≡ setup_fault self.now.lines line.now }
+    {
+        match line {
+            SetupLine::Bank(code) => bank_refusal(&self.banks, code),
+            SetupLine::Psp(name) => psp_refusal(&self.psps, name),
+            SetupLine::Account {
+                ac,
+                opening: _opening,
+                no_debit: _no_debit,
+                no_credit: _no_credit,
+            } => account_refusal(&self.banks, &self.accounts, ac),
+            SetupLine::Address {
+                addr,
+                ac,
+                policy: _policy,
+            } => address_refusal(&self.psps, &self.accounts, &self.addresses, addr, ac),
+        }
+    }
+
+    /// Adds a line behind the others. Condition: it is accepted there. At want of memory nothing
+    /// changes.
+    pub fn push(&mut self, line: SetupLine) -> Result<(), NoMemory>
+        requires { setup_fault self.old.lines line ≡ None }
         ensures ok { OnOk result (self.new ≡ record { start = self.old.start; lines = self.old.lines ++ line ∷ [] }) }
         ensures err { OnErr result (self.new ≡ self.old) }
     {
         let lines = &mut self.setup.lines;
         match line {
-            SetupLine::Bank(code) => add_bank(lines, &mut self.banks, code),
-            SetupLine::Psp(name) => add_psp(lines, &mut self.psps, name),
+            SetupLine::Bank(code) => push_bank(lines, &mut self.banks, code),
+            SetupLine::Psp(name) => push_psp(lines, &mut self.psps, name),
             SetupLine::Account {
                 ac,
                 opening,
@@ -88,11 +113,11 @@ impl Directory {
                     no_debit,
                     no_credit,
                 };
-                add_account(lines, &self.banks, &mut self.accounts, account)
+                push_account(lines, &self.banks, &mut self.accounts, account)
             }
             SetupLine::Address { addr, ac, policy } => {
                 let listing = Listing { ac, policy };
-                add_address(
+                push_address(
                     lines,
                     &self.psps,
                     &self.accounts,
@@ -104,14 +129,29 @@ impl Directory {
         }
     }
 
+    /// Adds a line behind the others, where it is accepted there: else it tells the first reason of
+    /// `docs/DEFINITIONS.md`, "The setup". A refusal changes nothing.
+    pub fn add(&mut self, line: SetupLine) -> Result<(), SetupFault>
+        ensures refused { MatchOption (setup_fault self.old.lines line)
+            (IsOkUnless result SetupFault.NoMemory) (λ why. result ≡ Err (told why)) }
+        ensures ok { OnOk result (self.new ≡ record { start = self.old.start; lines = self.old.lines ++ line ∷ [] }) }
+        ensures err { OnErr result (self.new ≡ self.old) }
+    {
+        if let Some(why) = self.refusal(&line) {
+            return Err(fault::told(why));
+        }
+        self.push(line)?;
+        Ok(())
+    }
+
     /// The directory of a whole setup, if each of its lines is accepted behind those before it: else
     /// the first line that isn't, with its reason.
-    pub fn build(alloc: Global, hashes: RandomState, setup: Setup) -> Result<Directory, At>
+    pub fn build(alloc: Global, setup: Setup) -> Result<Directory, At>
         ensures ok { IfOk result (λ d. d ≡ setup) }
         ensures accepted { IfOk result (λ d. is_setup d.lines ≡ true) }
         ensures refused { IfErr result (IsRefusal setup.lines) }
     {
-        let mut directory = Directory::new(alloc, hashes, setup.start);
+        let mut directory = Directory::new(alloc, setup.start);
         let mut at = 0;
         'lines: for line in setup.lines.into_items() {
             at += 1;

@@ -1,27 +1,24 @@
-//! One hashed table for each kind of line. A line is judged by the tables, and then goes to the lines
-//! and to its table, or to neither: the room in the table is made first, and what is left to do after
-//! the line is there can't fail.
-ghost use Rattle.std.specs.Prelude.{◌≡◌, ◌++◌, ◌∷◌, [], MatchOption, IsOkUnless, Err, OnOk, OnErr};
+//! One hashed table for each kind of line. A line is judged by the tables. One that is accepted goes
+//! to the lines and to its table, or to neither: the room in the table is made first, and what is left
+//! to do after the line is there can't fail.
+ghost use Rattle.std.specs.Prelude.{◌≡◌, ◌++◌, ◌∷◌, [], None, OnOk, OnErr};
 ghost use Rattle.upi_base.specs.Setup.{provider as provider_of, bank_fault, psp_fault, account_fault, address_fault};
 ghost use Rattle.upi_base.specs.declared.setup.SetupLine.TheVariants as line;
-ghost use Rattle.vpa_directory.specs.Faults.{told as told_of};
 ghost use Rattle.vpa_directory.specs.Tables.{BanksFit, PspsFit, AccountsFit, AddressesFit, bank_refusal as bank_refusal_by, psp_refusal as psp_refusal_by, account_refusal as account_refusal_by, address_refusal as address_refusal_by};
 
-use crate::fault::{SetupFault, told};
 use indexmap::{IndexMap, IndexSet};
-use std::hash::RandomState;
 use upi_base::{
     Account, AccountRef, Addr, BankCode, Listing, MAX_ACCOUNTS, MAX_ADDRESSES, MAX_BANKS, MAX_PSPS,
-    PspName, SetupLine, SetupLines, Why, provider,
+    NoMemory, PspName, SetupLine, SetupLines, Why, provider,
 };
 
-pub(crate) type Banks = IndexSet<BankCode, RandomState>;
+pub(crate) type Banks = IndexSet<BankCode>;
 
-pub(crate) type Psps = IndexSet<PspName, RandomState>;
+pub(crate) type Psps = IndexSet<PspName>;
 
-pub(crate) type Accounts = IndexSet<AccountRef, RandomState>;
+pub(crate) type Accounts = IndexSet<AccountRef>;
 
-pub(crate) type Addresses = IndexMap<Addr, Listing, RandomState>;
+pub(crate) type Addresses = IndexMap<Addr, Listing>;
 
 // The name of an address's PSP: by its grammar, there is one.
 fn psp_of(addr: &Addr) -> PspName
@@ -33,8 +30,8 @@ fn psp_of(addr: &Addr) -> PspName
     psp
 }
 
-// Why a bank is refused, if it is.
-fn bank_refusal(banks: &Banks, code: &BankCode) -> Option<Why>
+/// Why a bank is refused, if it is.
+pub(crate) fn bank_refusal(banks: &Banks, code: &BankCode) -> Option<Why>
     ensures { result ≡ bank_refusal_by banks.now.keys code.now }
 {
     if banks.contains(code) {
@@ -46,8 +43,8 @@ fn bank_refusal(banks: &Banks, code: &BankCode) -> Option<Why>
     }
 }
 
-// Why a PSP is refused, if it is.
-fn psp_refusal(psps: &Psps, name: &PspName) -> Option<Why>
+/// Why a PSP is refused, if it is.
+pub(crate) fn psp_refusal(psps: &Psps, name: &PspName) -> Option<Why>
     ensures { result ≡ psp_refusal_by psps.now.keys name.now }
 {
     if psps.contains(name) {
@@ -59,8 +56,8 @@ fn psp_refusal(psps: &Psps, name: &PspName) -> Option<Why>
     }
 }
 
-// Why an account is refused, if it is.
-fn account_refusal(banks: &Banks, accounts: &Accounts, ac: &AccountRef) -> Option<Why>
+/// Why an account is refused, if it is.
+pub(crate) fn account_refusal(banks: &Banks, accounts: &Accounts, ac: &AccountRef) -> Option<Why>
     ensures { result ≡ account_refusal_by banks.now.keys accounts.now.keys ac.now }
 {
     if !banks.contains(&ac.bank) {
@@ -74,8 +71,8 @@ fn account_refusal(banks: &Banks, accounts: &Accounts, ac: &AccountRef) -> Optio
     }
 }
 
-// Why an address is refused, if it is.
-fn address_refusal(
+/// Why an address is refused, if it is.
+pub(crate) fn address_refusal(
     psps: &Psps,
     accounts: &Accounts,
     addresses: &Addresses,
@@ -98,69 +95,57 @@ fn address_refusal(
     }
 }
 
-/// Adds a bank behind the lines. A refusal changes nothing.
-pub(crate) fn add_bank(
+/// Adds a bank behind the lines, which accept it. At want of memory nothing changes.
+pub(crate) fn push_bank(
     lines: &mut SetupLines,
     banks: &mut Banks,
     code: BankCode,
-) -> Result<(), SetupFault>
-    requires { BanksFit lines.old banks.old.keys }
+) -> Result<(), NoMemory>
+    requires banks { BanksFit lines.old banks.old.keys }
+    requires free { bank_fault lines.old code ≡ None }
     ensures fit { BanksFit lines.new banks.new.keys }
-    ensures refused { MatchOption (bank_fault lines.old code)
-        (IsOkUnless result SetupFault.NoMemory) (λ why. result ≡ Err (told_of why)) }
     ensures ok { OnOk result (lines.new ≡ lines.old ++ line.Bank code ∷ []) }
     ensures err { OnErr result (lines.new ≡ lines.old) }
 {
-    if let Some(why) = bank_refusal(banks, &code) {
-        return Err(told(why));
-    }
     banks.reserve(1)?;
     lines.push(SetupLine::Bank(code.copy()))?;
     banks.insert(code).unwrap();
     Ok(())
 }
 
-/// Adds a PSP behind the lines. A refusal changes nothing.
-pub(crate) fn add_psp(
+/// Adds a PSP behind the lines, which accept it. At want of memory nothing changes.
+pub(crate) fn push_psp(
     lines: &mut SetupLines,
     psps: &mut Psps,
     name: PspName,
-) -> Result<(), SetupFault>
-    requires { PspsFit lines.old psps.old.keys }
+) -> Result<(), NoMemory>
+    requires psps { PspsFit lines.old psps.old.keys }
+    requires free { psp_fault lines.old name ≡ None }
     ensures fit { PspsFit lines.new psps.new.keys }
-    ensures refused { MatchOption (psp_fault lines.old name)
-        (IsOkUnless result SetupFault.NoMemory) (λ why. result ≡ Err (told_of why)) }
     ensures ok { OnOk result (lines.new ≡ lines.old ++ line.Psp name ∷ []) }
     ensures err { OnErr result (lines.new ≡ lines.old) }
 {
-    if let Some(why) = psp_refusal(psps, &name) {
-        return Err(told(why));
-    }
     psps.reserve(1)?;
     lines.push(SetupLine::Psp(name.copy()))?;
     psps.insert(name).unwrap();
     Ok(())
 }
 
-/// Adds an account behind the lines. A refusal changes nothing.
-pub(crate) fn add_account(
+/// Adds an account behind the lines, which accept it. At want of memory nothing changes.
+pub(crate) fn push_account(
     lines: &mut SetupLines,
     banks: &Banks,
     accounts: &mut Accounts,
     account: Account,
-) -> Result<(), SetupFault>
+) -> Result<(), NoMemory>
     requires banks { BanksFit lines.old banks.now.keys }
     requires accounts { AccountsFit lines.old accounts.old.keys }
+    requires free { account_fault lines.old account.ac ≡ None }
     ensures fit { AccountsFit lines.new accounts.new.keys }
-    ensures refused { MatchOption (account_fault lines.old account.ac)
-        (IsOkUnless result SetupFault.NoMemory) (λ why. result ≡ Err (told_of why)) }
     ensures ok { OnOk result (lines.new ≡ lines.old
         ++ line.Account account.ac account.opening account.no_debit account.no_credit ∷ []) }
     ensures err { OnErr result (lines.new ≡ lines.old) }
 {
-    if let Some(why) = account_refusal(banks, accounts, &account.ac) {
-        return Err(told(why));
-    }
     accounts.reserve(1)?;
     lines.push(SetupLine::Account {
         ac: account.ac.copy(),
@@ -172,27 +157,23 @@ pub(crate) fn add_account(
     Ok(())
 }
 
-/// Adds an address behind the lines. A refusal changes nothing.
-pub(crate) fn add_address(
+/// Adds an address behind the lines, which accept it. At want of memory nothing changes.
+pub(crate) fn push_address(
     lines: &mut SetupLines,
     psps: &Psps,
     accounts: &Accounts,
     addresses: &mut Addresses,
     addr: Addr,
     listing: Listing,
-) -> Result<(), SetupFault>
+) -> Result<(), NoMemory>
     requires psps { PspsFit lines.old psps.now.keys }
     requires accounts { AccountsFit lines.old accounts.now.keys }
     requires addresses { AddressesFit lines.old addresses.old.entries }
+    requires free { address_fault lines.old addr listing.ac ≡ None }
     ensures fit { AddressesFit lines.new addresses.new.entries }
-    ensures refused { MatchOption (address_fault lines.old addr listing.ac)
-        (IsOkUnless result SetupFault.NoMemory) (λ why. result ≡ Err (told_of why)) }
     ensures ok { OnOk result (lines.new ≡ lines.old ++ line.Address addr listing.ac listing.policy ∷ []) }
     ensures err { OnErr result (lines.new ≡ lines.old) }
 {
-    if let Some(why) = address_refusal(psps, accounts, addresses, &addr, &listing.ac) {
-        return Err(told(why));
-    }
     addresses.reserve(1)?;
     lines.push(SetupLine::Address {
         addr: addr.copy(),

@@ -40,16 +40,16 @@ fn small(alloc: Global) -> Result<Setup, Fail> {
 }
 
 // The directory of a setup, if it is accepted.
-fn built(alloc: Global, hashes: RandomState, setup: Setup) -> Option<Directory> {
-    match Directory::build(alloc, hashes, setup) {
+fn built(alloc: Global, setup: Setup) -> Option<Directory> {
+    match Directory::build(alloc, setup) {
         Ok(directory) => Some(directory),
         Err(_) => None,
     }
 }
 
 // Why a setup is refused, if it is.
-fn refusal(alloc: Global, hashes: RandomState, setup: Setup) -> Option<At> {
-    match Directory::build(alloc, hashes, setup) {
+fn refusal(alloc: Global, setup: Setup) -> Option<At> {
+    match Directory::build(alloc, setup) {
         Ok(_) => None,
         Err(at) => Some(at),
     }
@@ -82,14 +82,13 @@ fn count(directory: &Directory) -> usize {
 #[test]
 fn what_was_given_is_found(rt: HostRuntime) -> Result<(), Fail> {
     let alloc = rt.alloc();
-    let hashes = RandomState::new(&rt)?;
     let setup = small(alloc)?;
     let ann = Addr::read(b"ann@alpha").ok_or("an address")?;
     let bob = Addr::read(b"bob@alpha").ok_or("an address")?;
     let own = AccountRef::read(b"AAAA/1").ok_or("an account")?;
     let alpha = PspName::read(b"alpha").ok_or("a PSP")?;
     let alph = PspName::read(b"alph").ok_or("a PSP")?;
-    let directory = built(alloc, hashes, setup).ok_or("a setup")?;
+    let directory = built(alloc, setup).ok_or("a setup")?;
     let found = directory.find(&ann) == Some(&own) && directory.policy(&ann) == Some(Policy::Ask);
     let missing = directory.find(&bob) == None && directory.policy(&bob) == None;
     let psps = directory.has_psp(&alpha) && !directory.has_psp(&alph);
@@ -103,7 +102,6 @@ fn what_was_given_is_found(rt: HostRuntime) -> Result<(), Fail> {
 #[test]
 fn the_first_reason_is_told(rt: HostRuntime) -> Result<(), Fail> {
     let alloc = rt.alloc();
-    let hashes = RandomState::new(&rt)?;
     let setup = small(alloc)?;
     let mut lines = Vec::new(alloc);
     lines.push(bank(b"AAAA")?)?;
@@ -124,7 +122,7 @@ fn the_first_reason_is_told(rt: HostRuntime) -> Result<(), Fail> {
         Some(SetupFault::NoAccount),
         None,
     ];
-    let mut directory = built(alloc, hashes, setup).ok_or("a setup")?;
+    let mut directory = built(alloc, setup).ok_or("a setup")?;
     let right = are_told(&mut directory, lines, &wanted);
     let left = count(&directory);
     drop(directory);
@@ -142,7 +140,7 @@ fn the_refused_line_is_told(rt: HostRuntime) -> Result<(), Fail> {
         start: Moment::of(0).ok_or("a moment")?,
         lines,
     };
-    let at = refusal(alloc, RandomState::new(&rt)?, setup).ok_or("a refusal")?;
+    let at = refusal(alloc, setup).ok_or("a refusal")?;
     assert!(rt; at.at == 2 && at.fault == SetupFault::Twice);
     Ok(())
 }
@@ -176,7 +174,6 @@ fn listed(alloc: Global, count: u32) -> Result<Vec<SetupLine>, Fail> {
 fn there_is_room_for_so_many(rt: HostRuntime) -> Result<(), Fail> {
     let alloc = rt.alloc();
     let start = Moment::of(0).ok_or("a moment")?;
-    let hashes = RandomState::new(&rt)?;
     let names = names(alloc)?;
     let listed = listed(alloc, 65_536)?;
     let accepted = vec![in alloc; None; 131_072]?;
@@ -186,7 +183,7 @@ fn there_is_room_for_so_many(rt: HostRuntime) -> Result<(), Fail> {
     more.push(account(b"AAXX/x")?)?;
     more.push(address(b"x@alpha", b"AAXX/7", Policy::No)?)?;
     let limit = Some(SetupFault::Limit);
-    let mut directory = Directory::new(alloc, hashes, start);
+    let mut directory = Directory::new(alloc, start);
     let banks = are_told(&mut directory, names, &accepted);
     let others = are_told(&mut directory, listed, &accepted);
     let left = count(&directory);

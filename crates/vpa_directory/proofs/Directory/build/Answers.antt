@@ -1,4 +1,4 @@
-use Rattle.std.proofs.Common.{◌≡◌, ◌++◌, ◌∷◌, ap, sym, ◌∙◌}
+use Rattle.std.proofs.Common.{◌++◌, ap, sym, ◌∙◌}
 use Rattle.upi_base.specs.Names.{Setup as Lines}
 use Rattle.upi_base.specs.declared.setup.Setup.{Setup}
 use Rattle.vpa_directory.proofs.Additions.{refusal_of}

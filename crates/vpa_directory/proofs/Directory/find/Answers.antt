@@ -1,7 +1,6 @@
-use Rattle.std.proofs.Common.{Option, None, ap, ◌∙◌}
+use Rattle.std.proofs.Common.{Option, ap, ◌∙◌}
 use Rattle.std.specs.Option.{option_map}
 use Rattle.upi_base.specs.declared.setup.Setup.{Setup}
-use Rattle.upi_base.specs.declared.setup.AccountRef.{AccountRef}
 use Rattle.upi_base.specs.declared.setup.Listing.{Listing}
 use Rattle.upi_base.specs.Setup.{listing_at}
 use Rattle.vpa_directory.proofs.Directory.find.Goals as goal

@@ -1,4 +1,4 @@
-use Rattle.std.proofs.Common.{Option, None, ap, ◌∙◌}
+use Rattle.std.proofs.Common.{Option, ap, ◌∙◌}
 use Rattle.std.specs.Option.{option_map}
 use Rattle.upi_base.specs.declared.setup.Setup.{Setup}
 use Rattle.upi_base.specs.declared.setup.Listing.{Listing}

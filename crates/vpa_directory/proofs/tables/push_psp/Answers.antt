@@ -1,0 +1,12 @@
+use Rattle.std.proofs.Common.{[], ◌∷◌, ◌++◌, ap, sym, ◌∙◌}
+use Rattle.upi_base.specs.Names.{Text}
+use Rattle.upi_base.specs.declared.setup.SetupLine.TheVariants as line
+use Rattle.vpa_directory.proofs.Additions.{psp_entered}
+use Rattle.vpa_directory.proofs.Refusals.{psp_judged}
+use Rattle.vpa_directory.proofs.tables.push_psp.Goals as goal
+
+pub returns-clause-fit : goal.returns-clause-fit
+returns-clause-fit c =
+    let more = c.in_ok-push.ensures.ok ∙ ap (λ (x : Text). c.args.lines.now ++ line.Psp x ∷ []) c.copy.ensures in
+    let keys = rw c.unwrap.ensures at c.insert.ensures.keys in
+    psp_entered c.args.lines.now c.push.new.self c.args.psps.now.keys c.reserve.new.self.keys c.insert.new.self.keys c.args.name c.requires.psps (sym (psp_judged c.args.lines.now c.args.psps.now.keys c.args.name c.requires.psps ∙ c.requires.free)) c.reserve.ensures.keys keys more
