@@ -83,6 +83,13 @@ impl Book {
         }
     }
 
+    /// What an account holds and which postings it takes, if it is there: all by one look-up.
+    pub fn holding(&self, ac: &AccountRef) -> Option<Holding>
+        ensures { result ≡ holding_of self.now ac.now }
+    {
+        self.accounts.get(ac).copied()
+    }
+
     /// Whether the account is there and its bank declines debits.
     pub fn no_debit(&self, ac: &AccountRef) -> bool
         ensures { result ≡ no_debit_of self.now ac.now }
