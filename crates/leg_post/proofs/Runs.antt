@@ -13,7 +13,7 @@ use Rattle.upi_laws.proofs.Accounts.{balances_run}
 use Rattle.bank_book.specs.declared.Holding.{Holding}
 use Rattle.bank_book.specs.Book.{Holdings, holding_of, with_balance, changed}
 use Rattle.bank_book.proofs.Changes.{holding_of-changed}
-use Rattle.leg_post.specs.Posts.{Ledger, present, has_now, posts, says, is_first, legs_with, book_with, held, IsPosted}
+use Rattle.leg_post.specs.Posts.{Ledger, present, has_now, posts, says, is_first, legs_with, book_with, held, opening, IsOpening, IsPosted}
 
 -- the rule of posting reads of an account what it has and its flags
 post_here : (l : Leg) (answers : Answers) (ks : List Kept) (t : Text) (n : ℕ) (ac : AccountRef) (a : Account)
@@ -21,6 +21,14 @@ post_here : (l : Leg) (answers : Answers) (ks : List Kept) (t : Text) (n : ℕ) 
 post_here Leg.Debit answers ks t n ac a = refl
 post_here Leg.Credit answers ks t n ac a = refl
 post_here Leg.Reversal answers ks t n ac a = refl
+
+-- before any order each account has what it opened with
+pub opens : (S : Setup) (p : Ledger) → p.legs ≡ [] → IsOpening S p.book → IsPosted S [] p
+opens S p legs opening_is = record { legs_are = legs; holdings_are = λ ac h is. go (account_named S ac) h (opening_is ac h is) }
+  where
+    go : (x : Option Account) (h : Holding) → option_map opening x ≡ Some h → option_map (held (kept S [])) x ≡ Some h
+    go None h is = absurd cc
+    go (Some a) h is = let same : kept_balance (kept S []) a ≡ a.opening = omega arith in ap (λ (n : ℕ). Some (record { balance = n; no_debit = a.no_debit; no_credit = a.no_credit })) same ∙ is
 
 -- what moves nothing leaves a balance
 moved_none : (l : Leg) (b : ℕ) → moved_by l 0 b ≡ b

@@ -55,6 +55,14 @@ IsBounded legs b = (ac : AccountRef) (h : Holding) → holding_of b ac ≡ Some 
 abbrev pub held : List Kept → Account → Holding
 held ks a = record { balance = kept_balance ks a; no_debit = a.no_debit; no_credit = a.no_credit }
 
+-- what an account of the setup opens with, with its flags
+abbrev pub opening : Account → Holding
+opening a = record { balance = a.opening; no_debit = a.no_debit; no_credit = a.no_credit }
+
+-- each account of the book is the setup's, and has what it opens with there
+abbrev pub IsOpening : Setup → Holdings → Type 0
+IsOpening S b = (ac : AccountRef) (h : Holding) → holding_of b ac ≡ Some h → option_map opening (account_named S ac) ≡ Some h
+
 -- The postings are those of these orders, the latest first, over this setup: the legs are those that its shard keeps of them,
 -- and each account of the book has what it opened with in the setup and what the legs moved.
 pub record IsPosted (S : Setup) (orders : List Order) (p : Ledger) : Type 0 where

@@ -11,7 +11,7 @@ ghost use Rattle.upi_words.specs.Prelude.{Order, Setup};
 ghost use Rattle.upi_base.specs.declared.limits.TheConstants.{MAX_AMOUNT};
 ghost use Rattle.upi_model.specs.Accounts;
 ghost use Rattle.bank_book.specs.Book.{holding_of};
-ghost use Rattle.leg_post.specs.Posts.{order, says, legs_with, book_with, IsBounded, IsPosted};
+ghost use Rattle.leg_post.specs.Posts.{order, says, legs_with, book_with, IsBounded, IsOpening, IsPosted};
 
 mod rows;
 
@@ -50,6 +50,7 @@ impl Posts {
         requires { IsBounded 0 book }
         ensures legs { result.legs ≡ [] }
         ensures book { result.book ≡ book }
+        ensures opens { (S : Setup) → IsOpening S book → IsPosted S [] result }
     {
         Posts {
             legs: DupTable::new(alloc, hashes),
@@ -103,7 +104,8 @@ impl Posts {
         match answer_in(&self.legs, &key) {
             Some(answer) => answer,
             None => {
-                let held = self.book.holding(ac).unwrap();
+                let place = self.book.find(ac).unwrap();
+                let held = self.book.at(place);
                 first_answer(&self.legs, &key, &held, amount)
             }
         }
@@ -128,9 +130,10 @@ impl Posts {
         if let Some(answer) = answer_in(&self.legs, &key) {
             return answer;
         }
-        let held = self.book.holding(ac).unwrap();
+        let place = self.book.find(ac).unwrap();
+        let held = self.book.at(place);
         let answer = first_answer(&self.legs, &key, &held, amount);
-        move_money(&mut self.book, leg, ac, amount, answer);
+        move_money(&mut self.book, leg, place, amount, answer);
         let row = Posting {
             amount,
             ac: ac.copy(),

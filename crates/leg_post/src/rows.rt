@@ -1,6 +1,7 @@
 //! The table of legs, and how a bank answers the first order for one.
 ghost use Rattle.std.specs.Prelude.{◌≡◌, ◌<◌, ◌^◌, Some};
-ghost use Rattle.bank_book.specs.Book.{holding_of};
+ghost use Rattle.bank_book.specs.Book.{holding_at, place_of};
+ghost use Rattle.upi_base.specs.declared.setup.AccountRef.{AccountRef as AnAccount};
 ghost use Rattle.upi_model.specs.Postings;
 ghost use Rattle.leg_post.specs.Posts;
 ghost use Rattle.leg_post.specs.Posts.{present};
@@ -101,16 +102,17 @@ fn other_leg(key: &LegKey, leg: Leg) -> LegKey
     }
 }
 
-/// Moves the amount of a leg that was posted: a debit takes it, a credit and a reversal give it.
-pub(crate) fn move_money(book: &mut Book, leg: Leg, ac: &AccountRef, amount: Paise, answer: Answer)
-    requires taken { Rows.CanMove leg amount answer (holding_of book.old ac.now) }
-    ensures { book.new ≡ Rows.moved_book leg amount answer book.old ac.now }
+/// Moves the amount of a leg that was posted, at the account at a place: a debit takes it, a credit
+/// and a reversal give it.
+pub(crate) fn move_money(book: &mut Book, leg: Leg, place: usize, amount: Paise, answer: Answer)
+    requires { Rows.CanMove leg amount answer (holding_at book.old place) }
+    ensures { (ac : AnAccount) → place_of book.old ac ≡ Some place → book.new ≡ Rows.moved_book leg amount answer book.old ac }
 {
     match answer {
         Answer::Posted => match leg {
-            Leg::Debit => book.take(ac, amount),
-            Leg::Credit => book.give(ac, amount),
-            Leg::Reversal => book.give(ac, amount),
+            Leg::Debit => book.take_at(place, amount),
+            Leg::Credit => book.give_at(place, amount),
+            Leg::Reversal => book.give_at(place, amount),
         },
         Answer::Declined(_code) => {}
     }

@@ -22,8 +22,8 @@ pub returns-in-None-clause-answer : goal.returns-in-None-clause-answer
 returns-in-None-clause-answer c =
     let p = c.args.self.now in
     let legs : legs_of c.self.inside.legs.rows ≡ p.legs = ap (λ (x : Ledger). x.legs) c.self.view_is in
-    let held : holding_of p.book c.args.ac.now ≡ Some c.unwrap-held.result = ap (λ (x : Ledger). holding_of x.book c.args.ac.now) (sym c.self.view_is) ∙ sym c.holding.ensures ∙ c.unwrap-held.ensures in
-    said_first c.self.inside.legs.rows p legs c.copy.result c.args.leg c.args.amount c.args.ac.now c.first_answer.result c.unwrap-held.result c.in-None.ensures held c.first_answer.ensures
+    let held : holding_of p.book c.args.ac.now ≡ Some c.at-held.result = ap (λ (x : Ledger). holding_of x.book c.args.ac.now) (sym c.self.view_is) ∙ c.at-held.ensures.holds c.args.ac.now (sym c.find.ensures.place ∙ c.unwrap-place.ensures) in
+    said_first c.self.inside.legs.rows p legs c.copy.result c.args.leg c.args.amount c.args.ac.now c.first_answer.result c.at-held.result c.in-None.ensures held c.first_answer.ensures
     ∙ ap (λ (t : Text). says p (order t c.args.leg c.args.amount c.args.ac.now)) c.copy.ensures
 
 pub returns-in-None-clause-definition : goal.returns-in-None-clause-definition

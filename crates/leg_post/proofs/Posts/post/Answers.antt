@@ -41,13 +41,13 @@ invariant_of-self c =
     let few : length rows < 2 ^ 31 = omega (arith, c.requires.few, legs) in
     let within = within_after (length rows) c.args.amount c.self.inside.book c.args.ac.now c.args.leg c.first_answer-answer.result c.self.invariant few c.requires.small in
     subst (λ (n : ℕ). IsWithin n c.move_money.new.book) (sym (count_more rows c.add.new.self.rows _ c.add.ensures.rows))
-    (subst (λ (b : Holdings). IsWithin (length rows + 1) b) (sym c.move_money.ensures) within)
+    (subst (λ (b : Holdings). IsWithin (length rows + 1) b) (sym (c.move_money.ensures c.args.ac.now (sym c.find.ensures.place ∙ c.unwrap-place.ensures))) within)
 
 pub returns-clause-answer : goal.returns-clause-answer
 returns-clause-answer c =
     let p = c.args.self.now in
-    let held : holding_of p.book c.args.ac.now ≡ Some c.unwrap-held.result = ap (λ (x : Ledger). holding_of x.book c.args.ac.now) (sym c.self.view_is) ∙ sym c.holding.ensures ∙ c.unwrap-held.ensures in
-    said_first c.self.inside.legs.rows p (ap (λ (x : Ledger). x.legs) c.self.view_is) c.args.txn c.args.leg c.args.amount c.args.ac.now c.first_answer-answer.result c.unwrap-held.result c.in_default.ensures held c.first_answer-answer.ensures
+    let held : holding_of p.book c.args.ac.now ≡ Some c.at-held.result = ap (λ (x : Ledger). holding_of x.book c.args.ac.now) (sym c.self.view_is) ∙ c.at-held.ensures.holds c.args.ac.now (sym c.find.ensures.place ∙ c.unwrap-place.ensures) in
+    said_first c.self.inside.legs.rows p (ap (λ (x : Ledger). x.legs) c.self.view_is) c.args.txn c.args.leg c.args.amount c.args.ac.now c.first_answer-answer.result c.at-held.result c.in_default.ensures held c.first_answer-answer.ensures
 
 pub returns-clause-definition : goal.returns-clause-definition
 returns-clause-definition c = λ S orders stands.
@@ -62,7 +62,7 @@ returns-clause-legs c =
 pub returns-clause-book : goal.returns-clause-book
 returns-clause-book c =
     book_first c.self.inside.legs.rows c.args.self.now (ap (λ (x : Ledger). x.legs) c.self.view_is) c.args.txn c.args.leg c.args.amount c.args.ac.now c.first_answer-answer.result
-    c.self.inside.book c.move_money.new.book (ap (λ (x : Ledger). x.book) c.self.view_is) c.in_default.ensures c.move_money.ensures
+    c.self.inside.book c.move_money.new.book (ap (λ (x : Ledger). x.book) c.self.view_is) c.in_default.ensures (c.move_money.ensures c.args.ac.now (sym c.find.ensures.place ∙ c.unwrap-place.ensures))
 
 pub returns-clause-stands : goal.returns-clause-stands
 returns-clause-stands c = λ S orders stands.
