@@ -1,3 +1,6 @@
+ghost use Rattle.std.specs.Prelude.{IfOk};
+ghost use Rattle.leg_post.specs.Posts.{IsBounded};
+
 use super::*;
 use std::test::Fail;
 use upi_base::Code;
@@ -50,7 +53,11 @@ fn account(number: u8) -> Option<AccountRef> {
     AccountRef::read(&[b'A', b'A', b'A', b'A', b'/', number % 10 + b'0'])
 }
 
-fn open(book: &mut Book, number: u8, opening: u64, flags: (bool, bool)) -> Result<(), Fail> {
+#[tactic(auto, using(crate::proofs::Opens::opens_more))]
+fn open(book: &mut Book, number: u8, opening: u64, flags: (bool, bool)) -> Result<(), Fail>
+    requires { IsBounded 0 book.old }
+    ensures { IsBounded 0 book.new }
+{
     let ac = account(number).ok_or("an account")?;
     let opening = Paise::of(opening).ok_or("a sum")?;
     if book.holding(&ac).is_none() {
@@ -75,7 +82,10 @@ fn is_answered(posts: &mut Posts, case: &Case) -> Result<bool, Fail> {
     Ok(looked == answer && posted == answer && balance == Some(wanted))
 }
 
-fn books(alloc: Global, hashes: RandomState) -> Result<Book, Fail> {
+#[tactic(auto, using(crate::proofs::Opens::opens_none))]
+fn books(alloc: Global, hashes: RandomState) -> Result<Book, Fail>
+    ensures { IfOk result (λ book. IsBounded 0 book) }
+{
     let mut book = Book::new(alloc, hashes);
     open(&mut book, 0, 10_000, (false, false))?;
     open(&mut book, 1, 10_000, (true, false))?;
