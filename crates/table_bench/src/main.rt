@@ -15,6 +15,7 @@ use std::io;
 use upi_base::NoMemory;
 
 /// What a line asks for.
+#[derive(Drop)]
 struct Task<'a> {
     call: &'a str,
     size: u32,
