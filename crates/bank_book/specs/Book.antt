@@ -1,7 +1,7 @@
 -- What a contract sees of a book: its accounts with what they hold, in the order in which they were added.
-use Rattle.std.specs.Prelude.{ℕ, Bool, false, if◌then◌else◌, List, [], ◌∷◌, Option}
+use Rattle.std.specs.Prelude.{ℕ, Bool, false, if◌then◌else◌, List, [], ◌∷◌, Option, position, slice_get}
 use Rattle.std.specs.Option.{option_map, option_map_or}
-use Rattle.std.specs.Map.{lookup}
+use Rattle.std.specs.Map.{lookup, keys_of, values_of}
 use Rattle.upi_base.specs.declared.setup.AccountRef.{AccountRef}
 use Rattle.upi_base.specs.Setup.{same_account}
 use Rattle.bank_book.specs.declared.Holding.{Holding}
@@ -13,6 +13,14 @@ Holdings = List (AccountRef × Holding)
 -- what an account holds and which postings it takes, if it is there
 abbrev pub holding_of : Holdings → AccountRef → Option Holding
 holding_of book ac = lookup (same_account ac) book
+
+-- the place of an account in the book, if it is there
+abbrev pub place_of : Holdings → AccountRef → Option ℕ
+place_of book ac = position (same_account ac) (keys_of book)
+
+-- what the account at a place holds, if there is one
+abbrev pub holding_at : Holdings → ℕ → Option Holding
+holding_at book place = slice_get (values_of book) place
 
 -- the balance of an account, if it is there
 abbrev pub balance_of : Holdings → AccountRef → Option ℕ

@@ -4,8 +4,9 @@
 //! with its balance in paise and its flags. `add` takes memory; nothing else does.
 #![tactic(auto)]
 
-ghost use Rattle.std.specs.Prelude.{◌≡◌, ◌+◌, ◌-◌, ◌^◌, ◌<◌, ◌≤◌, [], ◌∷◌, ◌++◌, None, IsSomeAnd, OnOk, OnErr};
-ghost use Rattle.bank_book.specs.Book.{holding_of, balance_of, no_debit_of, no_credit_of, changed};
+ghost use Rattle.std.specs.Prelude.{◌≡◌, ◌+◌, ◌-◌, ◌^◌, ◌<◌, ◌≤◌, [], ◌∷◌, ◌++◌, None, Some, is_some, length, IfSome, IsSomeAnd, OnOk, OnErr};
+ghost use Rattle.upi_base.specs.declared.setup.AccountRef.{AccountRef as AnAccount};
+ghost use Rattle.bank_book.specs.Book.{holding_of, place_of, holding_at, balance_of, no_debit_of, no_credit_of, changed};
 
 use indexmap::IndexMap;
 use std::alloc::Global;
@@ -83,6 +84,35 @@ impl Book {
         }
     }
 
+    /// What an account holds and which postings it takes, if it is there: all by one look-up.
+    pub fn holding(&self, ac: &AccountRef) -> Option<Holding>
+        ensures { result ≡ holding_of self.now ac.now }
+    {
+        self.accounts.get(ac).copied()
+    }
+
+    /// The place of an account in the book, if it is there: the one hashed look-up behind which `at`,
+    /// `take_at` and `give_at` need none.
+    pub fn find(&self, ac: &AccountRef) -> Option<usize>
+        ensures place { result ≡ place_of self.now ac.now }
+        ensures found { is_some result ≡ is_some (holding_of self.now ac.now) }
+        ensures within { IfSome result (λ place. place < length self.now) }
+    {
+        self.accounts.get_index_of(ac)
+    }
+
+    /// What the account at a place holds and which postings it takes.
+    pub fn at(&self, place: usize) -> Holding
+        requires { place < length self.now }
+        ensures there { holding_at self.now place ≡ Some result }
+        ensures holds { (ac : AnAccount) → place_of self.now ac ≡ Some place → holding_of self.now ac ≡ Some result }
+    {
+        let Some((_ac, held)) = self.accounts.get_index(place) else {
+            unreachable!();
+        };
+        *held
+    }
+
     /// Whether the account is there and its bank declines debits.
     pub fn no_debit(&self, ac: &AccountRef) -> bool
         ensures { result ≡ no_debit_of self.now ac.now }
@@ -123,6 +153,28 @@ impl Book {
             unreachable!();
         };
         held.balance += amount.get();
+    }
+
+    /// Takes an amount from the account at a place, which holds as much.
+    pub fn take_at(&mut self, place: usize, amount: Paise)
+        requires { IsSomeAnd (holding_at self.old place) (λ h. amount ≤ h.balance) }
+        ensures { (ac : AnAccount) → place_of self.old ac ≡ Some place → self.new ≡ changed (λ held. held - amount) self.old ac }
+    {
+        let Some(there) = self.accounts.get_index_mut(place) else {
+            unreachable!();
+        };
+        there.balance -= amount.get();
+    }
+
+    /// Gives an amount to the account at a place, whose balance stays below 2^62.
+    pub fn give_at(&mut self, place: usize, amount: Paise)
+        requires { IsSomeAnd (holding_at self.old place) (λ h. h.balance + amount < 2 ^ 62) }
+        ensures { (ac : AnAccount) → place_of self.old ac ≡ Some place → self.new ≡ changed (λ held. held + amount) self.old ac }
+    {
+        let Some(there) = self.accounts.get_index_mut(place) else {
+            unreachable!();
+        };
+        there.balance += amount.get();
     }
 }
 

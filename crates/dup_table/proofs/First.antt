@@ -8,16 +8,9 @@ use Rattle.indexmap.proofs.CallerLemmas.{insert_entry-new}
 use Rattle.dup_table.specs.Table.{Table, value_of, with_row}
 
 module _ {K V S : Type 0} (eq : K → K → Bool) (m : IndexMap K V S) (t : Table K V) (key : K) (value : V) where
-  -- what is known where a key was looked up in vain, and then inserted
-  pub record IsPut (rows : List (K × V)) : Type 0 where
-    pub new : value_of eq t key ≡ None
-    pub rows_are : rows ≡ with_row t key value
-
-  pub put_new : (rows : List (K × V)) → record { rows = m.entries; spare = spare m } ≡ t → None ≡ get eq m key → rows ≡ insert_entry eq m.entries key value → IsPut rows
-  put_new rows view none is = record {
-    new = ap (λ (u : Table K V). value_of eq u key) (sym view) ∙ sym none;
-    rows_are = is ∙ insert_entry-new eq m key value (sym none) ∙ ap (λ (u : Table K V). with_row u key value) view;
-  }
+  -- what is known where a key that isn't there was inserted
+  pub add_new : (rows : List (K × V)) → record { rows = m.entries; spare = spare m } ≡ t → value_of eq t key ≡ None → rows ≡ insert_entry eq m.entries key value → rows ≡ with_row t key value
+  add_new rows view new is = is ∙ insert_entry-new eq m key value (ap (λ (u : Table K V). value_of eq u key) view ∙ new) ∙ ap (λ (u : Table K V). with_row u key value) view
 
 -- what each key has with one row more: what it had, and else the row's value where the row's key is equal to it
 pub value_of-with_row : {K V : Type 0} (eq : K → K → Bool) (t : Table K V) (key : K) (value : V) (q : K)

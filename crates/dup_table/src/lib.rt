@@ -4,7 +4,7 @@
 //! ahead by `reserve`; `put` and `get` take no memory.
 #![tactic(auto)]
 
-ghost use Rattle.std.specs.Prelude.{◌≡◌, ◌+◌, ◌^◌, ◌<◌, ◌≤◌, ◌↔◌, [], length, IsTrue, IsOk, MatchOption, OnOk};
+ghost use Rattle.std.specs.Prelude.{◌≡◌, None, ◌+◌, ◌^◌, ◌<◌, ◌≤◌, ◌↔◌, [], length, IsTrue, IsOk, MatchOption, OnOk};
 ghost use Rattle.std.specs.List.{IsDistinct};
 ghost use Rattle.std.specs.Map.{keys_of};
 ghost use Rattle.std.specs.Option.{option_copied};
@@ -42,7 +42,7 @@ impl<K: Eq + Hash, V> Model for DupTable<K, V> {
     ghost view = { λ t. record { rows = t.rows.entries; spare = spare t.rows } };
 }
 
-impl<K: Eq + Hash + Drop, V: Copy> DupTable<K, V> {
+impl<K: Eq + Hash + Drop, V: Drop> DupTable<K, V> {
     /// An empty table. It takes no memory.
     ///
     /// Keys are hashed with `hashes`, so whoever chooses the keys can't choose them to collide.
@@ -88,6 +88,26 @@ impl<K: Eq + Hash + Drop, V: Copy> DupTable<K, V> {
         self.rows.is_empty()
     }
 
+    /// The value of a key: the first that was put under it. It takes no memory.
+    pub fn get(&self, key: &K) -> Option<&V>
+        ensures { option_copied result ≡ value_of K.eq self.now key.now }
+    {
+        self.rows.get(key)
+    }
+
+    /// Adds a key that isn't there yet, with its value. It hashes the key once, takes no memory, and
+    /// uses at most one place of the room.
+    pub fn add(&mut self, key: K, value: V)
+        requires room { 0 < self.old.spare }
+        requires new { value_of K.eq self.old key ≡ None }
+        ensures rows { self.new.rows ≡ with_row self.old key value }
+        ensures room { self.old.spare ≤ self.new.spare + 1 }
+    {
+        self.rows.insert(key, value).unwrap();
+    }
+}
+
+impl<K: Eq + Hash + Drop, V: Copy> DupTable<K, V> {
     /// Puts a value under a key that is new. A key that is there keeps its value, of which `Again`
     /// carries a copy, and then nothing changes. It takes no memory, and uses at most one place of
     /// the room.
@@ -101,15 +121,8 @@ impl<K: Eq + Hash + Drop, V: Copy> DupTable<K, V> {
         if let Some(kept) = self.rows.get(&key) {
             return Put::Again(*kept);
         }
-        self.rows.insert(key, value).unwrap();
+        self.add(key, value);
         Put::First
-    }
-
-    /// The value of a key: the first that was put under it. It takes no memory.
-    pub fn get(&self, key: &K) -> Option<&V>
-        ensures { option_copied result ≡ value_of K.eq self.now key.now }
-    {
-        self.rows.get(key)
     }
 }
 

@@ -3,3 +3,4 @@ pub mod Values
 pub mod Plants
 pub mod Finds
 pub mod Changes
+pub mod DueLists

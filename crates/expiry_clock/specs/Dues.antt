@@ -1,5 +1,6 @@
 -- What a contract sees of an index of due moments.
-use Rattle.std.specs.Prelude.{ℕ, min, nat_le, if◌then◌else◌, List, [], ◌∷◌, Option, Some, None}
+use Rattle.std.specs.Prelude.{ℕ, ◌≡◌, ◌≤◌, ◌↔◌, min, nat_le, if◌then◌else◌, List, [], ◌∷◌, map, Option, Some, None, Contains, IsSorted}
+use Rattle.std.specs.List.{IsDistinct}
 use Rattle.std.specs.Option.{option_map_or}
 use Rattle.std.specs.Ordering.{nat_cmp, ordering_then}
 use Rattle.std.specs.declared.cmp.Ordering.{Ordering}
@@ -34,3 +35,10 @@ least_of (r ∷ rs) = Some (option_map_or (λ (m : ℕ). min r.1 m) (least_of rs
 -- by the due moment, then by the bytes of the transaction's name
 abbrev pub due_cmp : ℕ × Text → ℕ × Text → Ordering
 due_cmp a b = ordering_then (nat_cmp a.0 b.0) (slice_cmp nat_cmp a.1 b.1)
+
+-- The list of what is due at a moment: a transaction is in it with a moment exactly where this is its due moment and isn't after now;
+-- none is in it twice; and it goes by the due moment, then by the bytes of the name. There is one such list, in whatever order due moments are kept.
+pub record IsDueList (now : ℕ) (dues : Dues) (found : List (ℕ × Text)) : Type 0 where
+  pub due : (txn : Text) (at : ℕ) → Contains found (at, txn) ↔ ((moment_of dues txn ≡ Some at) × (at ≤ now))
+  pub once : IsDistinct bytes_eq (map (λ (d : ℕ × Text). d.1) found)
+  pub sorted : IsSorted due_cmp found

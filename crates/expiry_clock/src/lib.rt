@@ -7,11 +7,11 @@
 //! something is due.
 #![tactic(auto)]
 
-ghost use Rattle.std.specs.Prelude.{◌≡◌, ◌+◌, ◌<◌, ◌≤◌, List, ℕ, [], None, Some, if◌then◌else◌, length, ◌↔◌, IsTrue, IfOk, OnOk, IsSorted, IsPermutation};
+ghost use Rattle.std.specs.Prelude.{◌≡◌, ◌+◌, ◌<◌, ◌≤◌, List, ℕ, [], None, Some, if◌then◌else◌, length, ◌↔◌, IsTrue, IfOk, OnOk, IsPermutation};
 ghost use Rattle.std.specs.List.{IsDistinct};
 ghost use Rattle.std.specs.Map.{keys_of};
 ghost use Rattle.std.specs.Str.{bytes_eq};
-ghost use Rattle.expiry_clock.specs.Dues.{moment_of, least_of, due_rows, due_cmp};
+ghost use Rattle.expiry_clock.specs.Dues.{moment_of, least_of, due_rows, IsDueList};
 
 mod tree;
 
@@ -146,11 +146,11 @@ impl DueIndex {
     /// All that is due at a moment: each due moment that is not after it, with its transaction, by the
     /// moment and then by the bytes of the name. It fails only for want of memory.
     pub fn due(&self, now: u64) -> Result<Vec<(u64, TxnId)>, NoMemory>
-        ensures sorted { IfOk result (λ found. IsSorted due_cmp found.items) }
+        ensures list { IfOk result (λ found. IsDueList now self.now found.items) }
         ensures all { IfOk result (λ found. IsPermutation (due_rows now self.now.rows) found.items) }
     {
         let mut found = Vec::new(*self.rows.allocator());
-        if !self.rows.is_empty() {
+        if self.rows.len() > 0 {
             collect(&self.rows, &self.tree, 1, self.tree.height, now, &mut found)?;
         }
         found.sort_unstable();

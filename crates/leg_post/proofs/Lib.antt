@@ -1,0 +1,4 @@
+pub mod Answered
+pub mod Opens
+pub mod Runs
+pub mod Views
