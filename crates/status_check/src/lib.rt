@@ -90,3 +90,6 @@ impl Confirm {
         self.next()
     }
 }
+
+#[cfg(test)]
+mod tests;
