@@ -8,83 +8,128 @@ const YES: What = What::Says {
     amount: 5000,
     yes: true,
 };
+
 const NO: What = What::Says {
     amount: 5000,
     yes: false,
 };
+
 const LESS: What = What::Says {
     amount: 4999,
     yes: true,
 };
+
 const MORE: What = What::Says {
     amount: 5001,
     yes: false,
 };
+
 const DEBITED: What = What::Answers {
     leg: Leg::Debit,
     answer: Answer::Posted,
 };
+
 const NO_DEBIT: What = What::Answers {
     leg: Leg::Debit,
     answer: Answer::Declined(Code::Funds),
 };
+
 const CREDITED: What = What::Answers {
     leg: Leg::Credit,
     answer: Answer::Posted,
 };
+
 const NO_CREDIT: What = What::Answers {
     leg: Leg::Credit,
     answer: Answer::Declined(Code::Cap),
 };
+
 const RETURNED: What = What::Answers {
     leg: Leg::Reversal,
     answer: Answer::Posted,
 };
+
 const NO_RETURN: What = What::Answers {
     leg: Leg::Reversal,
     answer: Answer::Declined(Code::Nothing),
 };
+
 const LATE: What = What::Late;
+
 const CLOSE: What = What::Close;
 
 const OK: Reply = Reply::Ack(None);
+
 const DUP: Reply = Reply::Ack(Some(Code::Dup));
+
 const AMT: Reply = Reply::Ack(Some(Code::Amt));
+
 const AUTH_LATE: Reply = Reply::Ack(Some(Code::AuthLate));
+
 const EXPIRED: Reply = Reply::Ack(Some(Code::Expired));
+
 const DEBIT_LATE: Reply = Reply::Ack(Some(Code::DebitLate));
+
 const CREDIT_LATE: Reply = Reply::Ack(Some(Code::CreditLate));
+
 const DONE: Reply = Reply::Acted;
+
 const NOT_DUE: Reply = Reply::NotDue;
+
 const CLOSED: Reply = Reply::Closed;
 
 const NOTHING: Wants = Wants::Nothing;
+
 const DEBIT: Wants = Wants::Debit;
+
 const CREDIT: Wants = Wants::Credit;
+
 const REVERSAL: Wants = Wants::Reversal;
+
 const OUTCOME: Wants = Wants::Outcome;
 
 const ASKING_1030: After = After::Waits(Phase::Asking, 1030);
+
 const DEBITING_1059: After = After::Waits(Phase::Debiting, 1059);
+
 const FAILED_DECLINED: After = After::Ends(Outcome::Failure(Code::Declined));
+
 const FAILED_AUTH_LATE: After = After::Ends(Outcome::Failure(Code::AuthLate));
+
 const FAILED_CLOSED: After = After::Ends(Outcome::Failure(Code::Closed));
+
 const ASKING_1060: After = After::Waits(Phase::Asking, 1060);
+
 const DEBITING_1089: After = After::Waits(Phase::Debiting, 1089);
+
 const FAILED_EXPIRED: After = After::Ends(Outcome::Failure(Code::Expired));
+
 const DEBITING_1040: After = After::Waits(Phase::Debiting, 1040);
+
 const CREDITING_1069: After = After::Waits(Phase::Crediting, 1069);
+
 const CREDITING_1071: After = After::Waits(Phase::Crediting, 1071);
+
 const FAILED_FUNDS: After = After::Ends(Outcome::Failure(Code::Funds));
+
 const REVERSING_1070: After = After::Waits(Phase::Reversing, 1070);
+
 const REVERSING_1075: After = After::Waits(Phase::Reversing, 1075);
+
 const CREDITING_1050: After = After::Waits(Phase::Crediting, 1050);
+
 const SUCCEEDED: After = After::Ends(Outcome::Success);
+
 const REVERSING_1060: After = After::Waits(Phase::Reversing, 1060);
+
 const REVERSING_1090: After = After::Waits(Phase::Reversing, 1090);
+
 const IS_DEEMED: After = After::Ends(Outcome::Deemed);
+
 const FAILED_DEBIT_LATE: After = After::Ends(Outcome::Failure(Code::DebitLate));
+
 const REVERSING_1100: After = After::Waits(Phase::Reversing, 1100);
+
 const FAILED_CAP: After = After::Ends(Outcome::Failure(Code::Cap));
 
 /// A PAY waits for its answer until 1030.
@@ -128,9 +173,7 @@ pub const ASKING_COLLECT: [Row; 16] = [
 ];
 
 /// It waits for the answer to its debit until 1040.
-pub const DEBITING_PATH: [Row; 1] = [
-    Row(YES, 1010, OK, DEBIT, DEBITING_1040),
-];
+pub const DEBITING_PATH: [Row; 1] = [Row(YES, 1010, OK, DEBIT, DEBITING_1040)];
 /// The same.
 pub const DEBITING: [Row; 15] = [
     Row(YES, 1011, OK, NOTHING, DEBITING_1040),
@@ -259,9 +302,7 @@ pub const DEEMED: [Row; 11] = [
 ];
 
 /// The asked PSP said no.
-pub const DECLINED_PATH: [Row; 1] = [
-    Row(NO, 1010, OK, OUTCOME, FAILED_DECLINED),
-];
+pub const DECLINED_PATH: [Row; 1] = [Row(NO, 1010, OK, OUTCOME, FAILED_DECLINED)];
 /// The same.
 pub const DECLINED: [Row; 11] = [
     Row(YES, 1200, DUP, NOTHING, FAILED_DECLINED),
@@ -278,9 +319,7 @@ pub const DECLINED: [Row; 11] = [
 ];
 
 /// Nobody answered a PAY in time.
-pub const UNANSWERED_PAY_PATH: [Row; 1] = [
-    Row(LATE, 1030, DONE, OUTCOME, FAILED_AUTH_LATE),
-];
+pub const UNANSWERED_PAY_PATH: [Row; 1] = [Row(LATE, 1030, DONE, OUTCOME, FAILED_AUTH_LATE)];
 /// The same.
 pub const UNANSWERED_PAY: [Row; 11] = [
     Row(YES, 1200, AUTH_LATE, NOTHING, FAILED_AUTH_LATE),
@@ -297,9 +336,7 @@ pub const UNANSWERED_PAY: [Row; 11] = [
 ];
 
 /// Nobody answered a COLLECT in time.
-pub const UNANSWERED_COLLECT_PATH: [Row; 1] = [
-    Row(LATE, 1060, DONE, OUTCOME, FAILED_EXPIRED),
-];
+pub const UNANSWERED_COLLECT_PATH: [Row; 1] = [Row(LATE, 1060, DONE, OUTCOME, FAILED_EXPIRED)];
 /// The same.
 pub const UNANSWERED_COLLECT: [Row; 11] = [
     Row(YES, 1200, EXPIRED, NOTHING, FAILED_EXPIRED),
@@ -378,4 +415,3 @@ pub const CLOSED_DEBITING: [Row; 11] = [
     Row(LATE, 9999, NOT_DUE, NOTHING, FAILED_CLOSED),
     Row(CLOSE, 1200, CLOSED, NOTHING, FAILED_CLOSED),
 ];
-
