@@ -1,18 +1,16 @@
 -- Confirmations, by the rules of the model.
-use Rattle.std.proofs.Common.{◌≡◌, ℕ, ◌+◌, Bool, true, false, List, [], ◌∷◌, Option, Some, None, refl, sym, ◌∙◌, ap, arith}
-use Rattle.std.specs.Prelude.{nat_lt, nat_le, not, ◌&&◌, ◌||◌, is_some, is_none}
+use Rattle.std.proofs.Common.{◌≡◌, ℕ, Bool, true, false, Option, Some, None, refl, sym, ◌∙◌, ap, arith}
+use Rattle.std.specs.Prelude.{is_some}
 use Rattle.std.specs.Option.{option_or}
 use Rattle.std.specs.List.{list_any, count_by}
 use Rattle.std.specs.Str.{bytes_eq}
 use Rattle.std.proofs.lemmas.Slice.Eq.{bytes_eq-Decides}
-use Rattle.upi_words.specs.Prelude.{Code, Outcome, Leg, PayReq, Sent, Decision, LegEnd, Said, Event, Opening, Setup, Text}
-use Rattle.upi_base.specs.Lists.{when}
-use Rattle.upi_model.specs.Places.{asked}
-use Rattle.upi_model.specs.Dues.{confirms, orders, due_confirm, due_by, passed, acknowledges_on, acknowledges}
+use Rattle.upi_words.specs.Prelude.{Code, Outcome, PayReq, Decision, LegEnd, Said, Event, Opening, Setup, Text}
+use Rattle.upi_model.specs.Dues.{confirms, due_confirm, due_by, passed, acknowledges_on, acknowledges}
 use Rattle.upi_model.specs.Sending.{outcome_messages, sent_due, sent_again, confirm}
-use Rattle.upi_model.specs.Standing.{Standing, Sendings, outcome_on, cause_on, due_on, is_due_on, advance, sending}
+use Rattle.upi_model.specs.Standing.{Standing, Sendings, outcome_on, cause_on, sending}
 use Rattle.status_check.specs.declared.{Confirm.Confirm}
-use Rattle.status_check.specs.Confirms.{IsOver, IsConfirmed, Begins, Late, Lates, Answers, HasDue}
+use Rattle.status_check.specs.Confirms.{IsOver, IsConfirmed, Begins, Lates, Answers, HasDue}
 use Rattle.status_check.specs.calls.Dues.{due_at, told}
 
 self_is : (t : Text) → bytes_eq t t ≡ true

@@ -1,13 +1,10 @@
 -- The machine of a transaction that opens.
-use Rattle.std.proofs.Common.{◌≡◌, ℕ, ◌∙◌, Bool, false, Option, Some, None, refl, sym, ap}
-use Rattle.upi_words.specs.Prelude.{Kind, Said, Event, Opening, Text}
+use Rattle.std.proofs.Common.{◌≡◌, ℕ, Option, None, refl, sym, ap}
+use Rattle.upi_words.specs.Prelude.{Kind, Opening}
 use Rattle.upi_model.specs.Places.{minutes, due_from}
-use Rattle.upi_model.specs.Standing.{Standing, opens_for, advance}
-use Rattle.upi_model.specs.Happenings.{unopened}
 use Rattle.txn_machine.specs.declared.stage.{Stage.Stage}
-use Rattle.txn_machine.specs.declared.machine.{Machine.Machine}
-use Rattle.txn_machine.specs.Stands.{Transaction, IsOf, stands, machine_of, begun}
-use Rattle.txn_machine.specs.Follows.{OpensAs, IsBegun, Begins}
+use Rattle.txn_machine.specs.Stands.{Transaction, machine_of, begun}
+use Rattle.txn_machine.specs.Follows.{OpensAs, Begins}
 
 due_is : (k : Kind) (now mins terms_mins : ℕ) → (k ≡ Kind.Collect → terms_mins ≡ mins) → due_from k now mins ≡ due_from k now terms_mins
 due_is Kind.Pay now mins terms_mins fit = refl

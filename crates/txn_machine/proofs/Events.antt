@@ -1,22 +1,22 @@
 -- What each event makes of a machine at each stage: what the rules make of its transaction.
-use Rattle.std.proofs.Common.{◌≡◌, ℕ, ◌+◌, Bool, true, false, List, [], ◌∷◌, ◌++◌, Option, Some, None, refl, sym, ◌∙◌, ap, subst, append-nil, arith}
+use Rattle.std.proofs.Common.{◌≡◌, ℕ, Bool, true, false, List, Option, Some, None, refl, sym, ◌∙◌, ap, subst, append-nil, arith}
 use Rattle.std.specs.Prelude.{nat_lt, nat_le, not, ◌==◌, ◌&&◌}
 use Rattle.std.specs.Option.{option_or}
 use Rattle.std.specs.List.{list_any}
 use Rattle.std.specs.Str.{bytes_eq}
 use Rattle.std.proofs.lemmas.Slice.Eq.{bytes_eq-Decides}
 use Rattle.std.proofs.lemmas.Bool.Decides.{nat_tests}
-use Rattle.upi_words.specs.Prelude.{Answer, Code, Kind, Leg, Outcome, Reply, PayReq, Account, AccountRef, AuthWord, Said, Event, Opening, Sent, Setup, Text}
+use Rattle.upi_words.specs.Prelude.{Answer, Kind, Leg, Outcome, Reply, PayReq, Account, AccountRef, AuthWord, Said, Event, Sent, Text}
 use Rattle.upi_base.specs.Lists.{when}
 use Rattle.upi_base.specs.Setup.{account_at}
 use Rattle.upi_base.proofs.Options.{or_none}
 use Rattle.upi_model.specs.Places.{due_answer, asked, accounts_agree, same_leg}
 use Rattle.upi_model.specs.Dues.{orders, due_confirm, passed}
 use Rattle.upi_model.specs.Replies.{reply_by, reply_late}
-use Rattle.upi_model.specs.Sending.{order_at, order, outcome_messages, sent_between}
-use Rattle.upi_model.specs.Standing.{outcome_on, due_on, advance, sending}
+use Rattle.upi_model.specs.Sending.{order_at, sent_between}
+use Rattle.upi_model.specs.Standing.{outcome_on, due_on, advance}
 use Rattle.txn_machine.specs.declared.stage.{Stage.Stage}
-use Rattle.txn_machine.specs.declared.moves.{Move.Move, Step.Step, Wants.Wants}
+use Rattle.txn_machine.specs.declared.moves.{Step.Step, Wants.Wants}
 use Rattle.txn_machine.specs.declared.machine.{Machine.Machine}
 use Rattle.txn_machine.specs.Stands.{Transaction, IsOf, stands, machine_of, sendings_of, returned_of}
 use Rattle.txn_machine.specs.Follows.{Follows, IsAnswer, IsOver, messages, onward, is_due, sent_then}

@@ -1,12 +1,9 @@
 -- Events that change nothing of a machine's transaction.
-use Rattle.std.proofs.Common.{◌≡◌, ℕ, Bool, true, false, Option, Some, None, refl}
-use Rattle.std.specs.Prelude.{◌&&◌}
-use Rattle.std.specs.Option.{option_map}
-use Rattle.std.specs.Str.{bytes_eq}
-use Rattle.upi_words.specs.Prelude.{Answer, Code, Leg, AuthWord, Said, Event, Decision, LegEnd, Opening, Text}
+use Rattle.std.proofs.Common.{◌≡◌, ℕ, true, false, Some, None, refl}
+use Rattle.upi_words.specs.Prelude.{Code, Leg, Said, Event}
 use Rattle.upi_base.proofs.Options.{or_none, or_nothing, then_none}
-use Rattle.upi_model.specs.Places.{asked, accounts_agree, decides_on, ends_on, reverses_on, due_debit, due_credit, cause_by}
-use Rattle.upi_model.specs.Standing.{Standing, outcome_on, advance}
+use Rattle.upi_model.specs.Places.{decides_on, ends_on, reverses_on, due_debit, due_credit, cause_by}
+use Rattle.upi_model.specs.Standing.{advance}
 use Rattle.txn_machine.specs.declared.machine.{Machine.Machine}
 use Rattle.txn_machine.specs.Stands.{Transaction, stands, decision_of, debit_end_of, credit_end_of, reversal_end_of}
 use Rattle.txn_machine.specs.MachineLaws.{MachineLaws, concerns, heard_of}

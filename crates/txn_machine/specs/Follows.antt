@@ -1,12 +1,12 @@
 -- What an event makes of a machine: what the rules of the model make of the transaction for which it stands.
 use Rattle.std.specs.Prelude.{ℕ, ◌≡◌, Bool, true, false, List, [], Option, Some, None, is_some}
 use Rattle.std.specs.Str.{bytes_eq}
-use Rattle.upi_words.specs.Prelude.{Kind, Leg, Answer, Outcome, PayReq, Sent, Reply, Account, AuthWord, Said, Event, Setup, Text}
+use Rattle.upi_words.specs.Prelude.{Kind, Leg, Answer, Outcome, PayReq, Sent, Account, AuthWord, Said, Event, Setup, Text}
 use Rattle.upi_base.specs.Setup.{account_at}
 use Rattle.upi_model.specs.Places.{asked, accounts_agree, minutes}
 use Rattle.upi_model.specs.Replies.{reply_by}
 use Rattle.upi_model.specs.Sending.{order, outcome_messages, sent_between}
-use Rattle.upi_model.specs.Standing.{Standing, outcome_on, due_on, is_due_on, opens_for, advance, sending}
+use Rattle.upi_model.specs.Standing.{outcome_on, due_on, is_due_on, opens_for, advance, sending}
 use Rattle.upi_model.specs.Happenings.{unopened}
 use Rattle.upi_base.specs.declared.code.Phase.{Phase}
 use Rattle.txn_machine.specs.declared.stage.{Stage.Stage}

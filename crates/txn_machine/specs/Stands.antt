@@ -1,8 +1,7 @@
 -- How the transaction of a machine stands, in the words of the model.
 use Rattle.std.specs.Prelude.{ℕ, ◌≡◌, Option, Some, None}
-use Rattle.upi_words.specs.Prelude.{Kind, Outcome, PayReq, Decision, LegEnd, Opening, Setup}
+use Rattle.upi_words.specs.Prelude.{Code, Kind, Outcome, Decision, LegEnd, Opening, Setup}
 use Rattle.upi_base.specs.declared.code.Phase.{Phase}
-use Rattle.upi_words.specs.Prelude.{Code}
 use Rattle.upi_model.specs.Places.{due_from, due_answer}
 use Rattle.upi_model.specs.Postings.{Answers}
 use Rattle.upi_model.specs.Standing.{Standing, Sendings, outcome_on, cause_on}

@@ -1,5 +1,5 @@
 -- What the private functions answer.
-use Rattle.std.specs.Prelude.{ℕ, ◌+◌, nat_lt, nat_le, Bool, true, false, not, ◌&&◌, if◌then◌else◌, Option, Some, None}
+use Rattle.std.specs.Prelude.{ℕ, ◌+◌, nat_lt, Bool, true, false, not, ◌&&◌, if◌then◌else◌, Option, Some, None}
 use Rattle.upi_base.specs.declared.limits.TheConstants.{DUE_SECONDS, MAX_CONFIRMATIONS}
 use Rattle.status_check.specs.declared.{Confirm.Confirm}
 

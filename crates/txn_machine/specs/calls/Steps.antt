@@ -1,5 +1,5 @@
 -- What the private functions answer.
-use Rattle.std.specs.Prelude.{ℕ, ◌+◌, ◌==◌, nat_le, Bool, true, false, not, if◌then◌else◌, Option, Some, None}
+use Rattle.std.specs.Prelude.{ℕ, ◌+◌, ◌==◌, nat_le, Bool, true, false, not, Option, Some, None}
 use Rattle.std.specs.Option.{unwrap_or}
 use Rattle.upi_words.specs.Prelude.{Answer, Code, Kind, Leg, Outcome, Reply}
 use Rattle.upi_base.specs.declared.code.Phase.{Phase}

@@ -1,5 +1,3 @@
-use Rattle.std.proofs.Common.{ℕ, Bool, subst}
-use Rattle.txn_machine.specs.Follows.{Follows}
 use Rattle.txn_machine.proofs.Events.{auth_follows, auth_still, auth_ended}
 use Rattle.txn_machine.proofs.machine.Machine.hear_auth.Goals as goal
 
