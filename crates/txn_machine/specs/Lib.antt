@@ -1,0 +1,4 @@
+pub mod Stands
+pub mod Follows
+pub mod MachineLaws
+pub mod calls

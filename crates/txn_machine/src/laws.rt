@@ -1,0 +1,9 @@
+//! What changes nothing of a machine's transaction: laws, by a function with an empty body.
+ghost use Rattle.txn_machine.specs.MachineLaws;
+
+/// An event of which a machine doesn't hear, and every event after a Close, leave its transaction as
+/// it stands, but that its outcome may be acknowledged.
+#[tactic(auto, using(crate::proofs::Others::machine_laws))]
+pub fn machine_laws()
+    ensures { MachineLaws.MachineLaws }
+{}
