@@ -118,3 +118,11 @@ module _ {J S : Type 0} where
       go : (done left : List S) → done ++ left ≡ before → AllZip R left [] → Done done → Done before
       go done [] is zip d = subst Done (sym (append-nil done) ∙ is) d
       go done (s ∷ left) is zip d = absurd zip
+
+  -- the same where the workers were lent as a slice, and written back
+  pub zip_back : (R : S → Worker J S → Type 0) (old lent new whole : List (Worker J S)) → lent ≡ old → length new ≡ length lent → ((i : ℕ) (d : Worker J S) → i < length lent → R (seat_of (slice_index_or lent i d)) (slice_index_or new i d)) → whole ≡ new
+      → AllZip R (map seat_of old) whole
+  zip_back R old lent new whole same long each is = subst (λ ws. AllZip R (map seat_of old) ws) (sym is) (subst (λ xs. AllZip R (map seat_of xs) new) same (each_of R lent new long each))
+
+  pub written_whole : (n : ℕ) (old lent new : List (Worker J S)) → n ≡ length old → lent ≡ old → length new ≡ length lent → take n (new ++ drop (length new) old) ≡ new
+  written_whole n old lent new size same long = ap (λ k. take k (new ++ drop (length new) old)) size ∙ written new old (long ∙ ap length same)

@@ -1,34 +1,35 @@
 use Rattle.std.proofs.Common.{rules, arith, ◌≡◌, ℕ, ◌+◌, List, [], ◌++◌, length, map, set, ap, refl, sym, ◌∙◌, subst, true}
 use Rattle.std.proofs.lemmas.List.Elements.{All-same}
-use Rattle.std.specs.List.{AllZip}
-use Rattle.std.specs.Prelude.{take, drop}
 use Rattle.crossbeam_queue.specs.Passes.{view}
 use Rattle.worker_pool.specs.declared.hand.Hand.{Hand}
 use Rattle.worker_pool.specs.Jobs.{total, Drained}
 use Rattle.worker_pool.specs.calls.Hands.{hand}
 use Rattle.worker_pool.specs.calls.Work.{Stand, stand}
 use Rattle.worker_pool.specs.calls.Crew.{seat_of, IsBack, IsHome, Joined}
+use Rattle.worker_pool.proofs.Counts.{counted_again}
 use Rattle.worker_pool.proofs.Running.{drained, even_tally}
-use Rattle.worker_pool.proofs.Crews.{written, long_seats, each_of}
+use Rattle.worker_pool.proofs.Crews.{written_whole, zip_back, long_seats}
 use Rattle.worker_pool.proofs.pool.drain.Goals as goal
 
 pub rejoin-ended-requires-clause-back : goal.rejoin-ended-requires-clause-back
 rejoin-ended-requires-clause-back g c =
-    let back : take c.station.new.workers.len (c.work_all.new.workers ++ drop (length c.work_all.new.workers) c.station.new.workers.items) ≡ c.work_all.new.workers =
-    ap (λ n. take n (c.work_all.new.workers ++ drop (length c.work_all.new.workers) c.station.new.workers.items)) c.station.new.workers.ok.0 ∙ written c.work_all.new.workers c.station.new.workers.items c.work_all.ensures.long in
+    let lent : c.as_mut_slice.result.now ≡ c.station.new.workers.items = search rules in
+    let back = written_whole c.station.new.workers.len c.station.new.workers.items c.as_mut_slice.result.now c.work_all.new.workers c.station.new.workers.ok.0 lent c.work_all.ensures.long in
     All-same (IsBack c.in_ok-queue.queue) _ c.work_all.new.workers back c.work_all.ensures.back
 
 pub finish-requires-clause-port : goal.finish-requires-clause-port
 finish-requires-clause-port g c κs within =
-    let back : take c.station.new.workers.len (c.work_all.new.workers ++ drop (length c.work_all.new.workers) c.station.new.workers.items) ≡ c.work_all.new.workers =
-    ap (λ n. take n (c.work_all.new.workers ++ drop (length c.work_all.new.workers) c.station.new.workers.items)) c.station.new.workers.ok.0 ∙ written c.work_all.new.workers c.station.new.workers.items c.work_all.ensures.long in
-    let first : (view c.new-desk.result.port).parts ≡ 1024 = ap (λ p. (view p).parts) c.new-desk.ensures.port ∙ ap (λ (v : Hand _). v.parts) c.in_ok-queue.ensures.3 in (
+    let lent : c.as_mut_slice.result.now ≡ c.station.new.workers.items = search rules in
+    let back = written_whole c.station.new.workers.len c.station.new.workers.items c.as_mut_slice.result.now c.work_all.new.workers c.station.new.workers.ok.0 lent c.work_all.ensures.long in
+    let known : view c.new-desk.result.port ≡ hand 1024 [] [] = ap view c.new-desk.ensures.port ∙ c.in_ok-queue.ensures.3 in
+    let first = ap (λ (v : Hand g.row.J.Denot). v.parts) known in (
       c.rejoin-ended.ensures.port.0,
       omega (
         arith,
         c.rejoin-ended.ensures.port.1,
         ap length back,
         c.work_all.ensures.long,
+        ap length lent,
         ap length c.station.ensures.seats,
         long_seats c.station.new.workers.items,
         c.station.ensures.port.1.parts,
@@ -37,15 +38,23 @@ finish-requires-clause-port g c κs within =
       ),
     )
 
--- of the whole call: the seats are those that came
-all_run : (g : goal.Given.Over) (c : goal.After-drop-queue-2 g) → Drained g.J.Job.does c.args.seats.now.items c.args.first.items (set c.rejoin-ended.new.seats.items 0 c.finish.new.seat) c.finish.new.desk.tally
-all_run g c =
-    let back : take c.station.new.workers.len (c.work_all.new.workers ++ drop (length c.work_all.new.workers) c.station.new.workers.items) ≡ c.work_all.new.workers =
-    ap (λ n. take n (c.work_all.new.workers ++ drop (length c.work_all.new.workers) c.station.new.workers.items)) c.station.new.workers.ok.0 ∙ written c.work_all.new.workers c.station.new.workers.items c.work_all.ensures.long in
-    let came : map seat_of c.station.new.workers.items ≡ c.args.seats.now.items = c.station.ensures.seats ∙ ap (λ v. v.items) c.swap.ensures.y_after in
+pub finish-requires-clause-counts : goal.finish-requires-clause-counts
+finish-requires-clause-counts g c κs within =
+    let old = c.station.new.workers.items in
+    let lent : c.as_mut_slice.result.now ≡ old = search rules in
+    let back = written_whole c.station.new.workers.len old c.as_mut_slice.result.now c.work_all.new.workers c.station.new.workers.ok.0 lent c.work_all.ensures.long in
     let ended : c.rejoin-ended.result ≡ true = search rules in
-    let zip = each_of (IsHome g.J.Job.does) c.station.new.workers.items c.work_all.new.workers c.work_all.ensures.long c.work_all.ensures.home in
-    let home = c.rejoin-ended.ensures.all ended (map seat_of c.station.new.workers.items) (subst (λ ws. AllZip (IsHome g.J.Job.does) (map seat_of c.station.new.workers.items) ws) (sym back) zip) in
+    let home = c.rejoin-ended.ensures.all ended (map seat_of old) (zip_back (IsHome g.J.Job.does) old c.as_mut_slice.result.now c.work_all.new.workers _ lent c.work_all.ensures.long c.work_all.ensures.home back) in
+    (counted_again _ _ home.put_count, counted_again _ _ home.taken_count)
+
+pub returns-clause-ok : goal.returns-clause-ok
+returns-clause-ok g c =
+    let old = c.station.new.workers.items in
+    let lent : c.as_mut_slice.result.now ≡ old = search rules in
+    let back = written_whole c.station.new.workers.len old c.as_mut_slice.result.now c.work_all.new.workers c.station.new.workers.ok.0 lent c.work_all.ensures.long in
+    let ended : c.rejoin-ended.result ≡ true = search rules in
+    let home = c.rejoin-ended.ensures.all ended (map seat_of old) (zip_back (IsHome g.J.Job.does) old c.as_mut_slice.result.now c.work_all.new.workers _ lent c.work_all.ensures.long c.work_all.ensures.home back) in
+    let came : map seat_of old ≡ c.args.seats.now.items = c.station.ensures.seats ∙ ap (λ v. v.items) c.swap.ensures.y_after in
     let first : view c.new-desk.result.port ≡ hand 1024 [] [] = ap view c.new-desk.ensures.port ∙ c.in_ok-queue.ensures.3 in
     let after : Stand g.row.J.Denot = record { hand = view c.offer.new.port; own = c.offer.new.own.items; tally = c.new-desk.result.tally } in
     let last = c.in_ok-finish.ensures in
@@ -54,7 +63,7 @@ all_run g c =
     came
     (drained
     g.J.Job.does
-    (map seat_of c.station.new.workers.items)
+    (map seat_of old)
     c.rejoin-ended.new.seats.items
     c.index_mut.result.now
     c.finish.new.seat
@@ -69,8 +78,9 @@ all_run g c =
       c.rejoin-ended.ensures.seats,
       ap length back,
       c.work_all.ensures.long,
+      ap length lent,
       ap length came,
-      long_seats c.station.new.workers.items,
+      long_seats old,
       c.requires.seats.0,
       c.args.seats.now.ok.0,
     ))
@@ -85,8 +95,6 @@ all_run g c =
     last.all.0
     last.all.1)
 
-pub returns-clause-ok : goal.returns-clause-ok
-returns-clause-ok g c = all_run g c
-
 pub returns-clause-even : goal.returns-clause-even
-returns-clause-even g c = even_tally g.J.Job.does c.args.seats.now.items c.args.first.items (set c.rejoin-ended.new.seats.items 0 c.finish.new.seat) c.finish.new.desk.tally (all_run g c)
+returns-clause-even g c =
+    even_tally g.J.Job.does c.args.seats.now.items c.args.first.items (set c.rejoin-ended.new.seats.items 0 c.finish.new.seat) c.finish.new.desk.tally (returns-clause-ok g c)
