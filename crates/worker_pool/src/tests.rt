@@ -14,6 +14,7 @@ use upi_io::{Gate, OpenGate};
 const FIRST: u32 = 100_000;
 
 // A job that tells its number to its seat, and adds so many.
+#[derive(Drop)]
 struct Numbered {
     number: u32,
     adds: u32,
@@ -50,6 +51,7 @@ impl Job for Numbered {
 }
 
 // A job that runs out of memory, or adds itself again, for ever.
+#[derive(Drop)]
 struct Endless {
     fails: bool,
 }
@@ -80,12 +82,14 @@ impl Job for Endless {
 }
 
 // Which of two jobs have begun.
+#[derive(Drop)]
 struct Begun {
     one: AtomicU64,
     other: AtomicU64,
 }
 
 // One of two jobs, each of which waits for the other.
+#[derive(Drop)]
 struct Meeting {
     is_one: bool,
 }
