@@ -1,0 +1,5 @@
+pub mod Weights
+pub mod Counts
+pub mod Moves
+pub mod Running
+pub mod Crews
