@@ -89,11 +89,12 @@ once now (r ∷ rows) all = go (nat_le r.1 now) (apart now r.0 rows all.0) (once
 pub is_due_list : (now : ℕ) (dues : Dues) (found : List (ℕ × Text)) → IsDistinct bytes_eq (keys_of dues.rows) → IsPermutation (due_rows now dues.rows) found → IsSorted due_cmp found → IsDueList now dues found
 is_due_list now dues found distinct moved sorted = record {
   due = λ t d. (
-      (λ in_list.
-          let c = Contains-permutation found (due_rows now dues.rows) (d, t) (IsPermutation-sym (due_rows now dues.rows) found moved) in_list in
-          let s = stands now dues.rows (d, t) c.0 c.1 c.2 in
-          (lookup_from_place nat_list_eq_equiv dues.rows s.0 t d distinct s.1, s.2)),
-      (λ is. Contains-permutation (due_rows now dues.rows) found (d, t) moved (listed now dues.rows t d is.0 is.1)));
+    (λ in_list.
+        let c = Contains-permutation found (due_rows now dues.rows) (d, t) (IsPermutation-sym (due_rows now dues.rows) found moved) in_list in
+        let s = stands now dues.rows (d, t) c.0 c.1 c.2 in
+        (lookup_from_place nat_list_eq_equiv dues.rows s.0 t d distinct s.1, s.2)),
+    (λ is. Contains-permutation (due_rows now dues.rows) found (d, t) moved (listed now dues.rows t d is.0 is.1)),
+  );
   once = IsDistinct-IsPermutation bytes_eq bytes_flip (map (λ (d : ℕ × Text). d.1) (due_rows now dues.rows)) (map (λ (d : ℕ × Text). d.1) found)
       (IsPermutation-map (λ (d : ℕ × Text). d.1) (due_rows now dues.rows) found moved) (once now dues.rows distinct);
   sorted = sorted;

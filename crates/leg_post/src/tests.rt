@@ -11,11 +11,17 @@ use upi_base::limits::{CREDIT_CAP, MAX_AMOUNT};
 type Case = (u8, Leg, u8, u64, Answer, u64);
 
 const POSTED: Answer = Answer::Posted;
+
 const FUNDS: Answer = Answer::Declined(Code::Funds);
+
 const NO_DEBIT: Answer = Answer::Declined(Code::NoDebit);
+
 const NO_CREDIT: Answer = Answer::Declined(Code::NoCredit);
+
 const CAP: Answer = Answer::Declined(Code::Cap);
+
 const NOTHING: Answer = Answer::Declined(Code::Nothing);
+
 const REVERSED: Answer = Answer::Declined(Code::Reversed);
 
 const CASES: [Case; 21] = [
