@@ -42,9 +42,12 @@ impl From<io::Error> for Trouble {
 
 fn main(rt: HostRuntime) -> Result<(), Trouble> {
     let mut words = env::args(&rt)?.skip(1);
-    let (Some(kind), Some(threads), Some(count), None) =
-        (words.next(), words.next(), words.next(), words.next())
-    else {
+    let (Some(kind), Some(threads), Some(count), None) = (
+        words.next(),
+        words.next(),
+        words.next(),
+        words.next(),
+    ) else {
         return Err(Trouble::Usage);
     };
     let (Ok(threads), Ok(count)) = (threads.parse::<u32>(), count.parse::<u64>()) else {

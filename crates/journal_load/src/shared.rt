@@ -62,10 +62,7 @@ fn write_all<N: JournalName<Note>, R: Wait>(
 }
 
 // The same in a journal that has a name.
-fn load_named<
-    N: JournalName<Note> + Send + Sync,
-    R: Threads + Wait + Sync + Clock,
->(
+fn load_named<N: JournalName<Note> + Send + Sync, R: Threads + Wait + Sync + Clock>(
     rt: &R,
     alloc: Global,
     blank: JournalBlank<Note>,
@@ -101,8 +98,7 @@ fn load_named<
         owner,
         caller,
         written: _,
-    } in writers
-    {
+    } in writers {
         owners.push(owner).ok()?;
         callers.push(caller).ok()?;
     }

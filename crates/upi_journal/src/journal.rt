@@ -100,9 +100,7 @@ impl<N: JournalName<E>, E: JournalEntry + Drop> Journal<N, E> {
         ensures err { OnErr result (pass.new ≡ pass.old) }
         ensures knows { Knows E.marks N.charter pass.new }
     {
-        self.home
-            .lock(rt)
-            .entries(&self.table.shared, pass, after)
+        self.home.lock(rt).entries(&self.table.shared, pass, after)
     }
 
     /// Where message `n` is, the first being 1, of the history that the pass has then seen: it takes

@@ -143,12 +143,5 @@ pub(crate) fn admit<N: JournalName<E>, E: JournalEntry>(
 {
     show(board, home, owner);
     show(board, home, caller);
-    enter(
-        board,
-        home,
-        &mut owner.seat,
-        &mut caller.seat,
-        count,
-        entry,
-    );
+    enter(board, home, &mut owner.seat, &mut caller.seat, count, entry);
 }

@@ -99,7 +99,15 @@ fn fill<N: JournalName<Remark>, R: Wait + Abort>(
     assert!(rt; matches!(add(rt, journal, one, first, ONE), Some(Ok(2))));
     assert!(rt; matches!(add(rt, journal, zero, first, THREE), Some(Ok(3))));
     let fault = add(rt, journal, zero, first, THREE);
-    assert!(rt; matches!(fault, Some(Err(AppendFault::Full { len: 3, entry: THREE }))));
+    assert!(rt;
+        matches!(
+            fault,
+            Some(Err(AppendFault::Full {
+                len: 3,
+                entry: THREE
+            }))
+        )
+    );
     assert!(rt; journal.look(rt, one) == 3);
     assert!(rt; journal.meet(rt, first, second) == 3);
     Ok(())
@@ -143,12 +151,7 @@ fn story<N: JournalName<Remark>, R: Wait + Abort>(
     requires fact { (h : _) (e : _) → N.charter.fact h e }
 {
     let (journal, mut owners, mut callers) = blank.open::<N>()?;
-    fill(
-        rt,
-        &journal,
-        owners.as_mut_slice(),
-        callers.as_mut_slice(),
-    )?;
+    fill(rt, &journal, owners.as_mut_slice(), callers.as_mut_slice())?;
     read(rt, &journal, callers.as_mut_slice())?;
     match journal.close(owners, callers, Some(LAST)) {
         Ok(all) => {

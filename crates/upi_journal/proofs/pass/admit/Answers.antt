@@ -47,7 +47,7 @@ returns-clause-home g c =
     let caller_role = ap (λ f. f.role) caller_was ∙ c.requires.caller in
     let N = g.N.JournalName.charter in
     let history : IsHistory m N (all ++ e ∷ []) = goes_on m N log all e c.args.owner.now c.args.caller.now c.owner.inside.seat.me.0.role c.caller.inside.seat.me.0.role same c.show-2.ensures.home.history c.owner.invariant.knows.role c.caller.invariant.knows.role owner_role caller_role
-        c.requires.owner c.show.ensures.mine c.requires.fits (subst (IsPrefix c.args.caller.now.seen) c.show.ensures.same c.show-2.ensures.longer) c.requires.fact (omega (arith, c.requires.count.0, c.requires.count.1)) in
+    c.requires.owner c.show.ensures.mine c.requires.fits (subst (IsPrefix c.args.caller.now.seen) c.show.ensures.same c.show-2.ensures.longer) c.requires.fact (omega (arith, c.requires.count.0, c.requires.count.1)) in
     home_entered m N c.show-2.new.home c.enter.new.home e c.args.count c.show-2.ensures.home c.enter.ensures.board.0 c.enter.ensures.slots.0 c.enter.ensures.home.0 c.enter.ensures.home.1 c.enter.ensures.home.2 len history
 
 pub returns-clause-owner : goal.returns-clause-owner
@@ -98,7 +98,7 @@ returns-clause-knows g c =
     let caller_role = ap (λ f. f.role) caller_was ∙ c.requires.caller in
     let N = g.N.JournalName.charter in
     let history : IsHistory m N (all ++ e ∷ []) = goes_on m N log all e c.args.owner.now c.args.caller.now c.owner.inside.seat.me.0.role c.caller.inside.seat.me.0.role same c.show-2.ensures.home.history c.owner.invariant.knows.role c.caller.invariant.knows.role owner_role caller_role
-        c.requires.owner c.show.ensures.mine c.requires.fits (subst (IsPrefix c.args.caller.now.seen) c.show.ensures.same c.show-2.ensures.longer) c.requires.fact (omega (arith, c.requires.count.0, c.requires.count.1)) in
+    c.requires.owner c.show.ensures.mine c.requires.fits (subst (IsPrefix c.args.caller.now.seen) c.show.ensures.same c.show-2.ensures.longer) c.requires.fact (omega (arith, c.requires.count.0, c.requires.count.1)) in
     let of_owner : IsPass m N c.owner.inside.role c.enter.new.owner = pass_entered m N c.owner.inside.role c.owner.inside.seat c.enter.new.owner all e c.args.count (Owner (m.owner e)) c.owner.invariant c.enter.ensures.board.1 c.enter.ensures.slots.1 owner_role owner_mine c.enter.ensures.owner len (owner_push m all e) history in
     let of_caller : IsPass m N c.caller.inside.role c.enter.new.caller = pass_entered m N c.caller.inside.role c.caller.inside.seat c.enter.new.caller all e c.args.count (Caller (m.caller e)) c.caller.invariant c.enter.ensures.board.2 c.enter.ensures.slots.2 caller_role caller_mine c.enter.ensures.caller len (caller_push m all e) history in
     (of_owner.knows, of_caller.knows)
@@ -119,7 +119,7 @@ invariant_of-owner g c =
     let caller_role = ap (λ f. f.role) caller_was ∙ c.requires.caller in
     let N = g.N.JournalName.charter in
     let history : IsHistory m N (all ++ e ∷ []) = goes_on m N log all e c.args.owner.now c.args.caller.now c.owner.inside.seat.me.0.role c.caller.inside.seat.me.0.role same c.show-2.ensures.home.history c.owner.invariant.knows.role c.caller.invariant.knows.role owner_role caller_role
-        c.requires.owner c.show.ensures.mine c.requires.fits (subst (IsPrefix c.args.caller.now.seen) c.show.ensures.same c.show-2.ensures.longer) c.requires.fact (omega (arith, c.requires.count.0, c.requires.count.1)) in
+    c.requires.owner c.show.ensures.mine c.requires.fits (subst (IsPrefix c.args.caller.now.seen) c.show.ensures.same c.show-2.ensures.longer) c.requires.fact (omega (arith, c.requires.count.0, c.requires.count.1)) in
     pass_entered m N c.owner.inside.role c.owner.inside.seat c.enter.new.owner all e c.args.count (Owner (m.owner e)) c.owner.invariant c.enter.ensures.board.1 c.enter.ensures.slots.1 owner_role owner_mine c.enter.ensures.owner len (owner_push m all e) history
 
 pub invariant_of-caller : goal.invariant_of-caller
@@ -138,5 +138,5 @@ invariant_of-caller g c =
     let caller_role = ap (λ f. f.role) caller_was ∙ c.requires.caller in
     let N = g.N.JournalName.charter in
     let history : IsHistory m N (all ++ e ∷ []) = goes_on m N log all e c.args.owner.now c.args.caller.now c.owner.inside.seat.me.0.role c.caller.inside.seat.me.0.role same c.show-2.ensures.home.history c.owner.invariant.knows.role c.caller.invariant.knows.role owner_role caller_role
-        c.requires.owner c.show.ensures.mine c.requires.fits (subst (IsPrefix c.args.caller.now.seen) c.show.ensures.same c.show-2.ensures.longer) c.requires.fact (omega (arith, c.requires.count.0, c.requires.count.1)) in
+    c.requires.owner c.show.ensures.mine c.requires.fits (subst (IsPrefix c.args.caller.now.seen) c.show.ensures.same c.show-2.ensures.longer) c.requires.fact (omega (arith, c.requires.count.0, c.requires.count.1)) in
     pass_entered m N c.caller.inside.role c.caller.inside.seat c.enter.new.caller all e c.args.count (Caller (m.caller e)) c.caller.invariant c.enter.ensures.board.2 c.enter.ensures.slots.2 caller_role caller_mine c.enter.ensures.caller len (caller_push m all e) history

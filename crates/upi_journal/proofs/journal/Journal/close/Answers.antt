@@ -12,7 +12,7 @@ returns-after-last-clause-ok g c =
     let h = c.in-Ok.seat.me.0.seen in
     let now = ok.0 ∙ sym ok.3 in
     let all : c.match-last.entries.items ≡ h ++ option_to_list c.args.last = elim c.match-last.branch [
-      in-Some w ↦ ap (λ v. v.items) w.entries-is ∙ w.push_reserved.ensures.items ∙ ap (λ l. l ++ w.in-Some.entry ∷ []) now ∙ ap (λ o. h ++ option_to_list o) (sym w.in-Some.is)
+      | in-Some w ↦ ap (λ v. v.items) w.entries-is ∙ w.push_reserved.ensures.items ∙ ap (λ l. l ++ w.in-Some.entry ∷ []) now ∙ ap (λ o. h ++ option_to_list o) (sym w.in-Some.is)
       | in_default w ↦ ap (λ v. v.items) w.entries-is ∙ now ∙ sym (append-nil h) ∙ ap (λ o. h ++ option_to_list o) (sym w.in_default.is)
     ] in
     record {
