@@ -1,0 +1,6 @@
+pub mod Lists
+pub mod Moves
+pub mod Seats
+pub mod Passes
+pub mod Counts
+pub mod Homes

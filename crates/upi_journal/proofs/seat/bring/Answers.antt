@@ -1,0 +1,11 @@
+use Rattle.std.proofs.Common.{arith, ap, ◌∙◌}
+use Rattle.upi_journal.proofs.Seats.{notes, brings}
+use Rattle.upi_journal.proofs.seat.bring.Goals as goal
+
+pub split_seat-note-requires : goal.split_seat-note-requires
+split_seat-note-requires g c = (c.requires.board.0, omega (arith, c.requires.board.2), notes g.E.JournalEntry.marks _ _ _)
+
+pub join_seat-requires : goal.join_seat-requires
+join_seat-requires g c =
+    let n = c.split_seat-note.ensures in
+    (c.requires.board.1, n.3 ∙ c.requires.board.0, ap (λ m. m.1) n.4, omega (arith, c.requires.board.2), brings g.E.JournalEntry.marks _ _ _ _ _ (ap (λ m. m.0.role) n.4) c.requires.role)

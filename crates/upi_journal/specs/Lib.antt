@@ -1,0 +1,5 @@
+pub mod Entries
+pub mod Rule
+pub mod Charter
+pub mod Passes
+pub mod calls
