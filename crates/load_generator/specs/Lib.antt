@@ -1,0 +1,4 @@
+pub mod Draws
+pub mod Users
+pub mod Payments
+pub mod Loads

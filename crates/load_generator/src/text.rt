@@ -1,0 +1,62 @@
+//! The text of a load.
+ghost use Rattle.std.specs.Prelude.{◌≡◌, ◌≤◌, ◌<◌, ◌++◌, OnOk, OnErr};
+ghost use Rattle.load_generator.specs.Loads;
+ghost use Rattle.load_generator.specs.Users.{setup_len};
+
+use crate::draws::Draws;
+use crate::payment::{Payment, push_send};
+use crate::users::{push, push_setup_line};
+use std::alloc::Global;
+use upi_base::NoMemory;
+
+/// How many payments a load has at most.
+pub const MAX_COUNT: u32 = 50_000;
+
+/// The greatest seed.
+pub const MAX_SEED: u32 = 2_147_483_647;
+
+/// How many lines the setup has.
+const SETUP_LINES: u32 = 90;
+
+/// Appends the setup.
+fn push_setup(out: &mut Vec<u8>) -> Result<(), NoMemory>
+    ensures { OnOk result (out.new.items ≡ out.old.items ++ Loads.setup_text setup_len) }
+{
+    'lines: for k in 0..SETUP_LINES {
+        push_setup_line(k, out)?;
+        push(b"\n", out)?;
+    }
+    Ok(())
+}
+
+/// Appends the lines of so many payments.
+fn push_sends(count: u32, seed: u32, out: &mut Vec<u8>) -> Result<(), NoMemory>
+    requires count { count ≤ 50000 }
+    requires seed { seed < 2147483648 }
+    ensures { OnOk result (out.new.items ≡ out.old.items ++ Loads.sends_text seed count) }
+{
+    let mut draws = Draws::new(seed);
+    'payments: for n in 0..count {
+        let payment = Payment::draw(&mut draws);
+        push_send(n + 1, payment, out)?;
+        push(b"\n", out)?;
+    }
+    Ok(())
+}
+
+/// Appends the text of a load of so many payments, drawn from a seed: the lines of its setup, and a
+/// SEND line for each payment. It fails only for want of memory, and then appends nothing.
+///
+/// Conditions: 1 to 50,000 payments, and a seed of at most 2,147,483,647.
+pub fn generate(alloc: Global, count: u32, seed: u32, out: &mut Vec<u8>) -> Result<(), NoMemory>
+    requires count { count ≤ 50000 }
+    requires seed { seed < 2147483648 }
+    ensures ok { OnOk result (out.new.items ≡ out.old.items ++ Loads.generated count seed) }
+    ensures err { OnErr result (out.new.items ≡ out.old.items) }
+{
+    let mut text = Vec::new(alloc);
+    push_setup(&mut text)?;
+    push_sends(count, seed, &mut text)?;
+    out.extend_from_slice(&text)?;
+    Ok(())
+}
