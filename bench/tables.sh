@@ -1,14 +1,14 @@
 #!/bin/sh
 # What each call of the tables costs at 1,000, 10,000 and 65,536 entries: nanoseconds of processor time
 # a call, and instructions where valgrind is there. It runs crates/table_bench, which must be built
-# (`rt run` in its folder leaves it in out/). The words are the program's path, if it is another.
+# (`rt run` in its folder leaves it in out/). The words are the calls, if not all are wanted.
 #
 # Each entry is asked for in turn: some four million calls are timed, and 65,000 counted. What filling
 # the tables costs is that of a run of no rounds, and taken off; of calls that need tables without
 # entries, of a run whose rounds make such tables and ask nothing. Of three times the least counts.
 set -eu
 root=$(CDPATH='' cd -- "$(dirname -- "$0")/.." && pwd)
-program=${1:-$root/crates/table_bench/out/table_bench}
+program=${TABLE_BENCH:-$root/crates/table_bench/out/table_bench}
 if [ ! -x "$program" ]; then
     echo "tables.sh: $program isn't there: rt run in crates/table_bench builds it" >&2
     exit 1
@@ -47,8 +47,11 @@ each() {
     echo $((($(known "$1" "$2 $3 $4") - $(known "$1" "$without")) / calls))
 }
 
+if [ $# = 0 ]; then
+    set -- get put_first take post_first post_again set remove_set least due_one add
+fi
 printf '| call | 1,000 | 10,000 | 65,536 |\n|---|---|---|---|\n'
-for call in get put_first take post_first post_again set remove_set least due_one add; do
+for call in "$@"; do
     printf '| `%s` |' "$call"
     for size in 1000 10000 65536; do
         printf ' %s ns' "$(each spent "$call" "$size" $((4000000 / size)))"
