@@ -7,7 +7,7 @@
 //! something is due.
 #![tactic(auto)]
 
-ghost use Rattle.std.specs.Prelude.{◌≡◌, ◌+◌, ◌<◌, ◌≤◌, List, ℕ, [], None, Some, if◌then◌else◌, length, ◌↔◌, IsTrue, IfOk, OnOk, IsPermutation};
+ghost use Rattle.std.specs.Prelude.{◌≡◌, ◌+◌, ◌<◌, ◌≤◌, List, ℕ, [], None, Some, if◌then◌else◌, length, ◌↔◌, IsTrue, IsOk, IfOk, OnOk, IsPermutation};
 ghost use Rattle.std.specs.List.{IsDistinct};
 ghost use Rattle.std.specs.Map.{keys_of};
 ghost use Rattle.std.specs.Str.{bytes_eq};
@@ -64,9 +64,13 @@ impl DueIndex {
     /// either way.
     pub fn reserve(&mut self, n: usize) -> Result<(), NoMemory>
         ensures ok { OnOk result (n ≤ self.new.spare) }
+        ensures ready { n ≤ self.old.spare → IsOk result }
         ensures rows { self.new.rows ≡ self.old.rows }
         ensures room { self.old.spare ≤ self.new.spare }
     {
+        if n <= self.spare() {
+            return Ok(());
+        }
         self.rows.reserve(n)?;
         let room = self.rows.capacity();
         if room > self.tree.leaves {
