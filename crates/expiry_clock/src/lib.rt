@@ -148,9 +148,11 @@ impl DueIndex {
     }
 
     /// All that is due at a moment: each due moment that is not after it, with its transaction, by the
-    /// moment and then by the bytes of the name. It fails only for want of memory.
+    /// moment and then by the bytes of the name. There is one such list. It fails only for want of
+    /// memory.
     pub fn due(&self, now: u64) -> Result<Vec<(u64, TxnId)>, NoMemory>
         ensures list { IfOk result (λ found. IsDueList now self.now found.items) }
+        ensures only { IfOk result (λ found. (other : List (ℕ × List ℕ)) → IsDueList now self.now other → other ≡ found.items) }
         ensures all { IfOk result (λ found. IsPermutation (due_rows now self.now.rows) found.items) }
     {
         let mut found = Vec::new(*self.rows.allocator());
