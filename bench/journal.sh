@@ -2,13 +2,14 @@
 # Times appends to the shared journal beside pushes to a plain list under a lock, by 1, 2 and 4
 # threads: bench/journal.sh [NOTES [ROUNDS]]
 #
-# Each figure is the best of some rounds of so many notes in all. The two take turns. With one thread
-# the journal must come to at least half of the plain list's appends a second.
+# Each figure is the best of some rounds of so many notes of 128 bytes in all. The two take turns, and
+# each grows its list from nothing. With one thread the journal must come to at least half of the
+# plain list's appends a second.
 set -eu
 root=$(CDPATH='' cd -- "$(dirname -- "$0")/.." && pwd)
 program=$root/crates/journal_load/out/journal_load
-notes=${1:-2000000}
-rounds=${2:-7}
+notes=${1:-200000}
+rounds=${2:-15}
 if [ ! -x "$program" ]; then
     echo "there is no $program; run 'rt run -- shared 1 1' in crates/journal_load" >&2
     exit 1

@@ -1,14 +1,34 @@
 // What the threads write.
+ghost use Rattle.std.specs.Prelude.{◌≡◌};
+
 use std::alloc::{AllocError, Global};
 use upi_journal::JournalEntry;
 
+/// How many words a note says. With them it has 128 bytes.
+const WORDS: usize = 14;
+
 /// A note of a thread, which numbers its notes from 0 on.
-#[derive(Clone, Copy, Debug, PartialEq, Eq)]
+#[derive(Clone, Copy)]
 pub struct Note {
     /// The thread's number.
     pub thread: u32,
     /// The note's number.
     pub number: u64,
+    /// What it says, which nobody reads. So it is about as large as an entry with a few names is.
+    pub text: [u64; WORDS],
+}
+
+impl Note {
+    /// The note of this thread that has this number.
+    pub fn of(thread: u32, number: u64) -> Note
+        ensures { (result.thread ≡ thread) × (result.number ≡ number) }
+    {
+        Note {
+            thread,
+            number,
+            text: [number; WORDS],
+        }
+    }
 }
 
 impl JournalEntry for Note {

@@ -10,7 +10,7 @@ use std::time::Instant;
 // Pushes the thread's notes, until there are so many or there is no memory.
 fn write_all<R: Wait>(rt: &R, history: &Mutex<Vec<Note>>, thread: u32, count: u64) {
     for number in 0..count {
-        if history.lock(rt).push(Note { thread, number }).is_err() {
+        if history.lock(rt).push(Note::of(thread, number)).is_err() {
             return;
         }
     }

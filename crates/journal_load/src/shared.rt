@@ -54,7 +54,7 @@ fn write_all<N: JournalName<Note>, R: Wait>(
         return;
     };
     for number in 0..count {
-        if write(rt, journal, writer, Note { thread, number }).is_none() {
+        if write(rt, journal, writer, Note::of(thread, number)).is_none() {
             return;
         }
         writer.written = number;
