@@ -50,18 +50,24 @@ wants_order x outcome Wants.Reversal now k a is = rw (is, self_is x.opening.term
 wants_order x None Wants.Outcome now k a is = refl
 wants_order x (Some y) Wants.Outcome now k a is = refl
 
+-- the outcome is wanted after a step only where there is one
+abbrev Told : Transaction → Stage → Step → ℕ → Type 0
+Told x s p now = p.wants ≡ Wants.Outcome → IsOver (taken (machine_of x.opening s) p) (onward (machine_of x.opening s) x now)
+
 -- what an event makes of a machine, from its parts
 follows_by : (x : Transaction) (s : Stage) (p : Step) (e : Event) (now : ℕ)
     → advance x.setup x.opening.terms.txn x.room false (stands (machine_of x.opening s) x) e now ≡ stands (taken (machine_of x.opening s) p) (onward (machine_of x.opening s) x now)
     → p.reply ≡ reply_by x.setup x.room x.says (is_due (machine_of x.opening s) x now) false (stands (machine_of x.opening s) x) e now
     → messages x.setup x.opening.terms (outcome_on (stands (taken (machine_of x.opening s) p) (onward (machine_of x.opening s) x now))) p.wants ≡ sent_then (machine_of x.opening s) (taken (machine_of x.opening s) p) x e now
+    → Told x s p now
     → ordered_then p.wants now (returned_of s) ≡ returned_of p.stage
     → Follows (machine_of x.opening s) (taken (machine_of x.opening s) p) (move_of p) x e now
-follows_by x s p e now st re se ord = record {
+follows_by x s p e now st re se to ord = record {
   same = refl;
   steps = st;
   replies = re;
   sends = se;
+  told = to;
   returned = λ a is. ap (λ (ms : List Sent). option_or (when (list_any (orders x.opening.terms.txn Leg.Reversal) ms) now) (returned_of s)) (sym se)
       ∙ wants_order x (outcome_on (stands (taken (machine_of x.opening s) p) (onward (machine_of x.opening s) x now))) p.wants now (returned_of s) a is
       ∙ ord;
@@ -107,6 +113,17 @@ leg_sends x (Stage.DebitLate k r) Leg.Reversal a now = refl
 leg_sends x (Stage.CreditDeclined k d c r) Leg.Reversal a now = refl
 leg_sends x s Leg.Reversal a now = refl
 
+leg_told : (x : Transaction) (s : Stage) (l : Leg) (a : Answer) (now : ℕ) → Told x s (leg_answered s a now l) now
+leg_told x (Stage.Debiting k) Leg.Debit Answer.Posted now is = absurd (cc (is))
+leg_told x (Stage.Debiting k) Leg.Debit (Answer.Declined c) now is = refl
+leg_told x (Stage.Crediting k d) Leg.Credit Answer.Posted now is = refl
+leg_told x (Stage.Crediting k d) Leg.Credit (Answer.Declined c) now is = absurd (cc (is))
+leg_told x (Stage.DebitLate k r) Leg.Reversal a now is = refl
+leg_told x (Stage.CreditDeclined k d c r) Leg.Reversal a now is = refl
+leg_told x s Leg.Debit a now is = absurd (cc (is))
+leg_told x s Leg.Credit a now is = absurd (cc (is))
+leg_told x s Leg.Reversal a now is = absurd (cc (is))
+
 leg_orders : (s : Stage) (l : Leg) (a : Answer) (now : ℕ) → ordered_then (leg_answered s a now l).wants now (returned_of s) ≡ returned_of (leg_answered s a now l).stage
 leg_orders (Stage.Debiting k) Leg.Debit Answer.Posted now = refl
 leg_orders (Stage.Debiting k) Leg.Debit (Answer.Declined c) now = refl
@@ -144,7 +161,7 @@ pub leg_follows : (old : Machine) (l : Leg) (a : Answer) (now : ℕ) (x : Transa
 leg_follows old l a now x is =
     let p = leg_answered old.stage a now l in
     subst (λ (m : Machine). Follows m (taken m p) (move_of p) x (Event.Answered x.opening.terms.txn l a) now) (sym is)
-    (follows_by x old.stage p (Event.Answered x.opening.terms.txn l a) now (leg_steps x old.stage l a now) (leg_replies x old.stage l a now) (leg_sends x old.stage l a now) (leg_orders old.stage l a now))
+    (follows_by x old.stage p (Event.Answered x.opening.terms.txn l a) now (leg_steps x old.stage l a now) (leg_replies x old.stage l a now) (leg_sends x old.stage l a now) (leg_told x old.stage l a now) (leg_orders old.stage l a now))
 
 pub leg_still : (old : Machine) (l : Leg) (a : Answer) (now : ℕ) → (leg_answered old.stage a now l).wants ≡ Wants.Nothing → taken old (leg_answered old.stage a now l) ≡ old
 leg_still old l a now is = ap (λ (s : Stage). record old { stage = s }) (leg_quiet old.stage l a now is)
@@ -201,6 +218,15 @@ late_sends x (Stage.CreditDeclined k d c r) true now e = refl
 late_sends x s false now e = refl
 late_sends x s true now e = absurd (cc (e))
 
+late_told : (x : Transaction) (s : Stage) (b : Bool) (now : ℕ) → Told x s (late_if b now s) now
+late_told x s false now is = absurd (cc (is))
+late_told x Stage.Asking true now is = refl
+late_told x (Stage.Debiting k) true now is = absurd (cc (is))
+late_told x (Stage.Crediting k d) true now is = refl
+late_told x (Stage.DebitLate k r) true now is = absurd (cc (is))
+late_told x (Stage.CreditDeclined k d c r) true now is = absurd (cc (is))
+late_told x s true now is = absurd (cc (is))
+
 late_orders : (s : Stage) (b : Bool) (now : ℕ) → ordered_then (late_if b now s).wants now (returned_of s) ≡ returned_of (late_if b now s).stage
 late_orders s false now = refl
 late_orders Stage.Asking true now = refl
@@ -235,6 +261,7 @@ late_at x s b now e =
     follows_by x s (late_if b now s) (Event.Late x.opening.terms.txn) now (late_steps x s b now e)
     (late_reply x s b now e ∙ ap reply_late is)
     (late_sends x s b now e ∙ ap (λ (d : Bool). sent_between x.setup d (stands (machine_of x.opening s) x) (stands (taken (machine_of x.opening s) (late_if b now s)) (onward (machine_of x.opening s) x now)) (Event.Late x.opening.terms.txn)) is)
+    (late_told x s b now)
     (late_orders s b now)
 
 pub late_follows : (old : Machine) (now : ℕ) (x : Transaction) → IsOf old x → Follows old (taken old (late_step old now)) (move_of (late_step old now)) x (Event.Late x.opening.terms.txn) now
@@ -291,6 +318,13 @@ module _ (x : Transaction) (p u : Text) (amount : ℕ) (c d : Option AccountRef)
   auth_sends Stage.Asking false true false = refl
   auth_sends s word true late = refl
 
+auth_told : (x : Transaction) (s : Stage) (k : Kind) (word right late : Bool) (now : ℕ) → Told x s (auth_by right late k word now s) now
+auth_told x s k word false late now is = absurd (cc (is))
+auth_told x Stage.Asking k word true true now is = absurd (cc (is))
+auth_told x Stage.Asking k true true false now is = absurd (cc (is))
+auth_told x Stage.Asking k false true false now is = refl
+auth_told x s k word true late now is = absurd (cc (is))
+
 auth_orders : (s : Stage) (k : Kind) (word right late : Bool) (now : ℕ) → ordered_then (auth_by right late k word now s).wants now (returned_of s) ≡ returned_of (auth_by right late k word now s).stage
 auth_orders s k word false late now = refl
 auth_orders Stage.Asking k word true true now = refl
@@ -321,6 +355,7 @@ auth_follows old now x psp a is it =
     (auth_steps x psp a.txn a.amount a.payer_ac a.payee_ac now it.txn it.asked_psp old.stage a.yes right late it.accounts refl refl)
     (auth_replies x psp a.txn a.amount a.payer_ac a.payee_ac now it.txn it.asked_psp old.stage a.yes right late it.accounts refl refl)
     (auth_sends x psp a.txn a.amount a.payer_ac a.payee_ac now it.txn it.asked_psp old.stage a.yes right late)
+    (auth_told x old.stage k a.yes right late now)
     (auth_orders old.stage k a.yes right late now))
 
 pub auth_still : (old : Machine) (amount : ℕ) (word : Bool) (now : ℕ) → (auth_step old amount word now).wants ≡ Wants.Nothing → taken old (auth_step old amount word now) ≡ old

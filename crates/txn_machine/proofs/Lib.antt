@@ -1,3 +1,4 @@
 pub mod Events
 pub mod Begins
 pub mod Others
+pub mod Pinned

@@ -1,4 +1,4 @@
--- Events that change nothing of a machine's transaction.
+-- Events that change nothing of a machine's transaction; and all laws of machines.
 use Rattle.std.proofs.Common.{◌≡◌, ℕ, true, false, Some, None, refl}
 use Rattle.upi_words.specs.Prelude.{Code, Leg, Said, Event}
 use Rattle.upi_base.proofs.Options.{or_none, or_nothing, then_none}
@@ -7,6 +7,7 @@ use Rattle.upi_model.specs.Standing.{advance}
 use Rattle.txn_machine.specs.declared.machine.{Machine.Machine}
 use Rattle.txn_machine.specs.Stands.{Transaction, stands, decision_of, debit_end_of, credit_end_of, reversal_end_of}
 use Rattle.txn_machine.specs.MachineLaws.{MachineLaws, concerns, heard_of}
+use Rattle.txn_machine.proofs.Pinned.{one_machine, one_move}
 
 -- an event that brings no decision, and ends no leg
 quiet : (m : Machine) (x : Transaction) (e : Event) (now : ℕ) → decides_on x.setup x.opening e now ≡ None
@@ -48,4 +49,4 @@ closed m x e now = λ i. record {
 }
 
 pub machine_laws : MachineLaws
-machine_laws = record { others = others; closed = closed }
+machine_laws = record { others = others; closed = closed; one_machine = one_machine; one_move = one_move }

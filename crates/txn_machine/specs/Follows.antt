@@ -59,6 +59,10 @@ is_due m x now = is_due_on false (stands m x) (sendings_of m) now
 abbrev pub sent_then : Machine → Machine → Transaction → Event → ℕ → List Sent
 sent_then old new x e now = sent_between x.setup (is_due old x now) (stands old x) (stands new (onward old x now)) e
 
+-- the transaction has its outcome
+abbrev pub IsOver : Machine → Transaction → Type 0
+IsOver m x = is_some (outcome_on (stands m x)) ≡ true
+
 -- Before a Close: what an event makes of the machine of a transaction, and what is replied and sent.
 pub record Follows (old new : Machine) (move : Move) (x : Transaction) (e : Event) (now : ℕ) : Type 0 where
   -- it is a machine of the same transaction
@@ -69,6 +73,8 @@ pub record Follows (old new : Machine) (move : Move) (x : Transaction) (e : Even
   pub replies : move.reply ≡ reply_by x.setup x.room x.says (is_due old x now) false (stands old x) e now
   -- the messages that are wanted are those that the rules send
   pub sends : messages x.setup x.opening.terms (outcome_on (stands new (onward old x now))) move.wants ≡ sent_then old new x e now
+  -- the outcome is wanted only of a transaction that has one, so that it is never said in place of no message
+  pub told : move.wants ≡ Wants.Outcome → IsOver new (onward old x now)
   -- a reversal that was ordered was last ordered when the rules last sent its order, for a payer who is in the setup
   pub returned : (a : Account) → account_at x.setup x.opening.terms.payer ≡ Some a
       → (sending x.opening.terms.txn (sendings_of old) now (sent_then old new x e now)).returned ≡ returned_of new.stage
@@ -95,10 +101,6 @@ Lates old new move now = (x : Transaction) → IsOf old x → Follows old new mo
 -- the switch closes, at whatever moment
 abbrev pub Closes : Machine → Machine → Move → Type 0
 Closes old new move = (x : Transaction) (now : ℕ) → IsOf old x → Follows old new move x Event.Close now
-
--- the transaction has its outcome
-abbrev pub IsOver : Machine → Transaction → Type 0
-IsOver m x = is_some (outcome_on (stands m x)) ≡ true
 
 -- whatever transaction the machine is of has its outcome
 abbrev pub IsEnded : Machine → Type 0
