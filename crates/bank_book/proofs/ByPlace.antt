@@ -8,7 +8,7 @@ use Rattle.upi_base.specs.declared.setup.AccountRef.{AccountRef}
 use Rattle.upi_base.specs.Setup.{same_account}
 use Rattle.upi_base.proofs.Options.{some_same}
 use Rattle.bank_book.specs.declared.Holding.{Holding}
-use Rattle.bank_book.specs.Book.{Holdings, holding_of, place_of, holding_at, with_balance, changed}
+use Rattle.bank_book.specs.Book.{Holdings, holding_of, place_of, holding_at, with_balance, changed, changed_at}
 
 -- the place of an account, or the length of the book
 abbrev pub place_or_end : Holdings → AccountRef → ℕ
@@ -47,6 +47,12 @@ written_there f (r ∷ rs) ac h at = go (same_account ac r.0) (written_there f r
     go false later found =
         ap (λ (n : ℕ). set_value_at (r ∷ rs) n (with_balance h (f h.balance))) (next (place_or_end rs ac))
         ∙ ap (λ (x : Holdings). r ∷ x) (later (subst (λ (n : ℕ). slice_get (r.1 ∷ values_of rs) n ≡ Some h) (next (place_or_end rs ac)) found))
+
+-- a write at a place is the change of the balance there
+pub written_at : (f : ℕ → ℕ) (book : Holdings) (place : ℕ) (h : Holding) → holding_at book place ≡ Some h → set_value_at book place (with_balance h (f h.balance)) ≡ changed_at f book place
+written_at f [] place h at = refl
+written_at f (r ∷ rs) zero h at = ap (λ (k : Holding). (r.0, with_balance k (f k.balance)) ∷ rs) (sym (some_same r.1 h at))
+written_at f (r ∷ rs) (suc place) h at = ap (λ (x : Holdings). r ∷ x) (written_at f rs place h at)
 
 -- what stands at a place of the rows
 pub row_there : (book : Holdings) (place : ℕ) (ac : AccountRef) (h : Holding) → slice_get book place ≡ Some (ac, h) → holding_at book place ≡ Some h

@@ -1,5 +1,5 @@
 -- What a contract sees of a book: its accounts with what they hold, in the order in which they were added.
-use Rattle.std.specs.Prelude.{ℕ, Bool, false, if◌then◌else◌, List, [], ◌∷◌, Option, position, slice_get}
+use Rattle.std.specs.Prelude.{ℕ, zero, suc, Bool, false, if◌then◌else◌, List, [], ◌∷◌, Option, position, slice_get}
 use Rattle.std.specs.Option.{option_map, option_map_or}
 use Rattle.std.specs.Map.{lookup, keys_of, values_of}
 use Rattle.upi_base.specs.declared.setup.AccountRef.{AccountRef}
@@ -42,3 +42,9 @@ with_balance h n = record { balance = n; no_debit = h.no_debit; no_credit = h.no
 abbrev pub changed : (ℕ → ℕ) → Holdings → AccountRef → Holdings
 changed f [] ac = []
 changed f (r ∷ rs) ac = if same_account ac r.0 then (r.0, with_balance r.1 (f r.1.balance)) ∷ rs else r ∷ changed f rs ac
+
+-- the book in which the balance at one place has changed, by f
+abbrev pub changed_at : (ℕ → ℕ) → Holdings → ℕ → Holdings
+changed_at f [] place = []
+changed_at f (r ∷ rs) zero = (r.0, with_balance r.1 (f r.1.balance)) ∷ rs
+changed_at f (r ∷ rs) (suc place) = r ∷ changed_at f rs place

@@ -6,7 +6,7 @@
 
 ghost use Rattle.std.specs.Prelude.{◌≡◌, ◌+◌, ◌-◌, ◌^◌, ◌<◌, ◌≤◌, [], ◌∷◌, ◌++◌, None, Some, is_some, length, IfSome, IsSomeAnd, OnOk, OnErr};
 ghost use Rattle.upi_base.specs.declared.setup.AccountRef.{AccountRef as AnAccount};
-ghost use Rattle.bank_book.specs.Book.{holding_of, place_of, holding_at, balance_of, no_debit_of, no_credit_of, changed};
+ghost use Rattle.bank_book.specs.Book.{holding_of, place_of, holding_at, balance_of, no_debit_of, no_credit_of, changed, changed_at};
 
 use indexmap::IndexMap;
 use std::alloc::Global;
@@ -158,7 +158,8 @@ impl Book {
     /// Takes an amount from the account at a place, which holds as much.
     pub fn take_at(&mut self, place: usize, amount: Paise)
         requires { IsSomeAnd (holding_at self.old place) (λ h. amount ≤ h.balance) }
-        ensures { (ac : AnAccount) → place_of self.old ac ≡ Some place → self.new ≡ changed (λ held. held - amount) self.old ac }
+        ensures place { self.new ≡ changed_at (λ held. held - amount) self.old place }
+        ensures account { (ac : AnAccount) → place_of self.old ac ≡ Some place → self.new ≡ changed (λ held. held - amount) self.old ac }
     {
         let Some(there) = self.accounts.get_index_mut(place) else {
             unreachable!();
@@ -169,7 +170,8 @@ impl Book {
     /// Gives an amount to the account at a place, whose balance stays below 2^62.
     pub fn give_at(&mut self, place: usize, amount: Paise)
         requires { IsSomeAnd (holding_at self.old place) (λ h. h.balance + amount < 2 ^ 62) }
-        ensures { (ac : AnAccount) → place_of self.old ac ≡ Some place → self.new ≡ changed (λ held. held + amount) self.old ac }
+        ensures place { self.new ≡ changed_at (λ held. held + amount) self.old place }
+        ensures account { (ac : AnAccount) → place_of self.old ac ≡ Some place → self.new ≡ changed (λ held. held + amount) self.old ac }
     {
         let Some(there) = self.accounts.get_index_mut(place) else {
             unreachable!();

@@ -4,3 +4,4 @@ pub mod Plants
 pub mod Finds
 pub mod Changes
 pub mod DueLists
+pub mod OneList

@@ -37,7 +37,7 @@ abbrev pub due_cmp : ℕ × Text → ℕ × Text → Ordering
 due_cmp a b = ordering_then (nat_cmp a.0 b.0) (slice_cmp nat_cmp a.1 b.1)
 
 -- The list of what is due at a moment: a transaction is in it with a moment exactly where this is its due moment and isn't after now;
--- none is in it twice; and it goes by the due moment, then by the bytes of the name. There is one such list, in whatever order due moments are kept.
+-- none is in it twice; and it goes by the due moment, then by the bytes of the name. This speaks of the due moments alone, and there is one such list.
 pub record IsDueList (now : ℕ) (dues : Dues) (found : List (ℕ × Text)) : Type 0 where
   pub due : (txn : Text) (at : ℕ) → Contains found (at, txn) ↔ ((moment_of dues txn ≡ Some at) × (at ≤ now))
   pub once : IsDistinct bytes_eq (map (λ (d : ℕ × Text). d.1) found)

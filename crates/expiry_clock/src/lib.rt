@@ -7,7 +7,7 @@
 //! something is due.
 #![tactic(auto)]
 
-ghost use Rattle.std.specs.Prelude.{◌≡◌, ◌+◌, ◌<◌, ◌≤◌, List, ℕ, [], None, Some, if◌then◌else◌, length, ◌↔◌, IsTrue, IfOk, OnOk, IsPermutation};
+ghost use Rattle.std.specs.Prelude.{◌≡◌, ◌+◌, ◌<◌, ◌≤◌, List, ℕ, [], None, Some, if◌then◌else◌, length, ◌↔◌, IsTrue, IsOk, IfOk, OnOk, IsPermutation};
 ghost use Rattle.std.specs.List.{IsDistinct};
 ghost use Rattle.std.specs.Map.{keys_of};
 ghost use Rattle.std.specs.Str.{bytes_eq};
@@ -64,9 +64,13 @@ impl DueIndex {
     /// either way.
     pub fn reserve(&mut self, n: usize) -> Result<(), NoMemory>
         ensures ok { OnOk result (n ≤ self.new.spare) }
+        ensures ready { n ≤ self.old.spare → IsOk result }
         ensures rows { self.new.rows ≡ self.old.rows }
         ensures room { self.old.spare ≤ self.new.spare }
     {
+        if n <= self.spare() {
+            return Ok(());
+        }
         self.rows.reserve(n)?;
         let room = self.rows.capacity();
         if room > self.tree.leaves {
@@ -144,9 +148,11 @@ impl DueIndex {
     }
 
     /// All that is due at a moment: each due moment that is not after it, with its transaction, by the
-    /// moment and then by the bytes of the name. It fails only for want of memory.
+    /// moment and then by the bytes of the name. There is one such list. It fails only for want of
+    /// memory.
     pub fn due(&self, now: u64) -> Result<Vec<(u64, TxnId)>, NoMemory>
         ensures list { IfOk result (λ found. IsDueList now self.now found.items) }
+        ensures only { IfOk result (λ found. (other : List (ℕ × List ℕ)) → IsDueList now self.now other → other ≡ found.items) }
         ensures all { IfOk result (λ found. IsPermutation (due_rows now self.now.rows) found.items) }
     {
         let mut found = Vec::new(*self.rows.allocator());

@@ -58,7 +58,9 @@ fn names_break_ties(rt: HostRuntime) -> Result<(), Fail> {
     Ok(())
 }
 
-// As many transactions as make the tree grow several times, set in no order.
+// As many transactions as make the tree grow several times, set in no order. The powers of 11 are all
+// numbers below 1009, which is a prime; the last eight of them aren't set: 476, 191, 83, 913, 962, 492,
+// 367 and 1. So each number from 500 to 700 is there.
 #[test]
 fn many_are_found(rt: HostRuntime) -> Result<(), Fail> {
     let alloc = rt.alloc();
@@ -77,14 +79,13 @@ fn many_are_found(rt: HostRuntime) -> Result<(), Fail> {
     for k in 0..500 {
         index.remove(&name(format!(in alloc; "T{k}")?.as_bytes())?);
     }
-    let least = index.least();
-    assert!(rt; least.is_some_and(|at| at >= 500));
+    assert!(rt; index.least() == Some(500));
     let found = index.due(700)?;
     let mut last = 499;
     for (at, txn) in &found {
         assert!(rt; *at > last && *at <= 700 && index.get(txn) == Some(*at));
         last = *at;
     }
-    assert!(rt; found.len() > 190);
+    assert!(rt; found.len() == 201);
     Ok(())
 }

@@ -69,6 +69,9 @@ module _ (rows : Rows) (p : Ledger) (legs_are : legs_of rows ≡ p.legs) (t : Te
 
   -- ---- what is kept and moved
 
+  pub first_is : None ≡ answer_in rows (key_of t l) → is_first p.legs (order t l n ac) ≡ true
+  first_is is = ap (λ (x : Option Answer). is_none x) (answer_before None is)
+
   pub legs_before : (a b : Answer) → Some b ≡ answer_in rows (key_of t l) → p.legs ≡ legs_with p.legs (order t l n ac) a
   legs_before a b is = ap (λ (x : Option Answer). cond (is_none x) (p.legs ++ record { order = order t l n ac; answer = a } ∷ []) p.legs) (sym (answer_before (Some b) is))
 

@@ -6,12 +6,12 @@
 //! takes memory.
 #![tactic(auto)]
 
-ghost use Rattle.std.specs.Prelude.{◌≡◌, ◌+◌, ◌^◌, ◌<◌, ◌≤◌, ◌∷◌, [], List, Some, length, IsSome, IsOk, OnOk};
+ghost use Rattle.std.specs.Prelude.{◌≡◌, ◌+◌, ◌^◌, ◌<◌, ◌≤◌, ◌∷◌, [], List, Some, false, length, IsSome, IsOk, OnOk};
 ghost use Rattle.upi_words.specs.Prelude.{Order, Setup};
 ghost use Rattle.upi_base.specs.declared.limits.TheConstants.{MAX_AMOUNT};
 ghost use Rattle.upi_model.specs.Accounts;
 ghost use Rattle.bank_book.specs.Book.{holding_of};
-ghost use Rattle.leg_post.specs.Posts.{order, says, legs_with, book_with, IsBounded, IsOpening, IsPosted};
+ghost use Rattle.leg_post.specs.Posts.{order, says, is_first, legs_with, book_with, IsBounded, IsOpening, IsPosted};
 
 mod rows;
 
@@ -112,8 +112,8 @@ impl Posts {
     }
 
     /// Answers an order for a leg. The first one is kept, and moves its amount where it is posted;
-    /// each later one is answered as the first was. It takes no memory, and uses at most one place
-    /// of the room.
+    /// each later one is answered as the first was. It takes no memory. The first uses at most one
+    /// place of the room, a later one none.
     pub fn post(&mut self, txn: TxnId, leg: Leg, ac: &AccountRef, amount: Paise) -> Answer
         requires room { 0 < self.old.spare }
         requires there { IsSome (holding_of self.old.book ac.now) }
@@ -124,6 +124,7 @@ impl Posts {
         ensures legs { self.new.legs ≡ legs_with self.old.legs (order txn leg amount ac.now) result }
         ensures book { self.new.book ≡ book_with self.old.legs self.old.book (order txn leg amount ac.now) result }
         ensures room { self.old.spare ≤ self.new.spare + 1 }
+        ensures kept { is_first self.old.legs (order txn leg amount ac.now) ≡ false → self.old.spare ≤ self.new.spare }
         ensures stands { (S : Setup) (orders : List Order) → IsPosted S orders self.old → IsPosted S (order txn leg amount ac.now ∷ orders) self.new }
     {
         let key = LegKey { txn, leg };

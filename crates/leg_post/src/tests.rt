@@ -24,10 +24,12 @@ const NOTHING: Answer = Answer::Declined(Code::Nothing);
 
 const REVERSED: Answer = Answer::Declined(Code::Reversed);
 
-const CASES: [Case; 21] = [
-    // The whole balance, in the one place that there is room for; again; and one paisa more than there is.
+const CASES: [Case; 22] = [
+    // The whole balance, in the one place that there is room for; again; again, of another amount to
+    // an account that takes no debits; and one paisa more than there is.
     (1, Leg::Debit, 0, 10_000, POSTED, 0),
     (1, Leg::Debit, 0, 10_000, POSTED, 0),
+    (1, Leg::Debit, 1, 5, POSTED, 10_000),
     (2, Leg::Debit, 0, 1, FUNDS, 0),
     // The flags bind their own leg, and go before the balance. A reversal isn't a credit.
     (3, Leg::Debit, 1, 10_001, NO_DEBIT, 10_000),

@@ -1,5 +1,5 @@
--- A generated load: its lines, as a script, and what `gen` writes of it.
-use Rattle.std.specs.Prelude.{ℕ, zero, suc, ◌+◌, ◌%◌, ◌==◌, ◌||◌, if◌then◌else◌, List, [], ◌∷◌, ◌++◌, codes}
+-- The text of a generated load: the lines of its setup, and the line of each payment.
+use Rattle.std.specs.Prelude.{ℕ, zero, suc, ◌+◌, [], ◌∷◌, ◌++◌}
 use Rattle.upi_words.specs.Prelude.{Text}
 use Rattle.load_generator.specs.Users.{setup_line, setup_len}
 use Rattle.load_generator.specs.Payments.{state_after, payment_from, send_line}
@@ -12,8 +12,6 @@ state_at seed (suc n) = state_after (state_at seed n)
 -- the line of the payment behind so many others
 abbrev pub next_send : ℕ → ℕ → Text
 next_send seed n = send_line (n + 1) (payment_from (state_at seed n))
-
--- ---- what is written of it
 
 -- a line with its end
 abbrev pub ended : Text → Text

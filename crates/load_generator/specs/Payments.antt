@@ -1,5 +1,5 @@
 -- A generated payment, drawn from a state, and the SEND line that asks for it.
-use Rattle.std.specs.Prelude.{ℕ, ◌+◌, ◌*◌, ◌/◌, ◌%◌, ◌==◌, Bool, if◌then◌else◌, List, [], ◌∷◌, ◌++◌, codes}
+use Rattle.std.specs.Prelude.{ℕ, ◌+◌, ◌/◌, ◌%◌, ◌==◌, Bool, if◌then◌else◌, [], ◌∷◌, ◌++◌, codes}
 use Rattle.upi_words.specs.Prelude.{Text}
 use Rattle.upi_base.specs.Money.{paise_text}
 use Rattle.load_generator.specs.Draws.{next_state, drawn}

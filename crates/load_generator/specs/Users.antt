@@ -1,5 +1,5 @@
 -- Who takes part in a generated load: four banks, four PSPs, and forty users, each with an account and an address. All are counted from 0.
-use Rattle.std.specs.Prelude.{ℕ, ◌+◌, ◌%◌, ◌-◌, ◌==◌, nat_lt, if◌then◌else◌, List, ◌∷◌, ◌++◌, codes, decimal}
+use Rattle.std.specs.Prelude.{ℕ, ◌+◌, ◌%◌, ◌-◌, ◌==◌, nat_lt, if◌then◌else◌, ◌++◌, codes, decimal}
 use Rattle.upi_words.specs.Prelude.{Text}
 
 -- the bank of a number, by its rest after division by four

@@ -2,7 +2,7 @@
 #![tactic(auto)]
 
 mod draws;
-pub mod payment;
+mod payment;
 mod text;
 mod users;
 

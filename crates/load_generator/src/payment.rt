@@ -8,15 +8,15 @@ use upi_base::{NoMemory, write_total};
 
 /// A payment from one of the forty users, who are counted from 0, to another.
 #[derive(Clone, Copy, Debug, PartialEq, Eq)]
-pub struct Payment {
+pub(crate) struct Payment {
     /// Who pays.
-    pub payer: u32,
+    pub(crate) payer: u32,
     /// Who is paid.
-    pub payee: u32,
+    pub(crate) payee: u32,
     /// The amount in paise.
-    pub amount: u32,
+    pub(crate) amount: u32,
     /// Whether the payee's PSP asks.
-    pub is_collect: bool,
+    pub(crate) is_collect: bool,
 }
 
 /// A payee who isn't the payer.

@@ -1,7 +1,8 @@
 //! The text of a load.
-ghost use Rattle.std.specs.Prelude.{◌≡◌, ◌≤◌, ◌<◌, ◌++◌, OnOk, OnErr};
+ghost use Rattle.std.specs.Prelude.{◌≡◌, ◌≤◌, ◌++◌, OnOk, OnErr};
 ghost use Rattle.load_generator.specs.Loads;
 ghost use Rattle.load_generator.specs.Users.{setup_len};
+ghost use Rattle.load_generator.specs.declared.text.TheConstants.{MAX_COUNT, MAX_SEED};
 
 use crate::draws::Draws;
 use crate::payment::{Payment, push_send};
@@ -31,8 +32,8 @@ fn push_setup(out: &mut Vec<u8>) -> Result<(), NoMemory>
 
 /// Appends the lines of so many payments.
 fn push_sends(count: u32, seed: u32, out: &mut Vec<u8>) -> Result<(), NoMemory>
-    requires count { count ≤ 50000 }
-    requires seed { seed < 2147483648 }
+    requires count { count ≤ MAX_COUNT }
+    requires seed { seed ≤ MAX_SEED }
     ensures { OnOk result (out.new.items ≡ out.old.items ++ Loads.sends_text seed count) }
 {
     let mut draws = Draws::new(seed);
@@ -47,10 +48,10 @@ fn push_sends(count: u32, seed: u32, out: &mut Vec<u8>) -> Result<(), NoMemory>
 /// Appends the text of a load of so many payments, drawn from a seed: the lines of its setup, and a
 /// SEND line for each payment. It fails only for want of memory, and then appends nothing.
 ///
-/// Conditions: 1 to 50,000 payments, and a seed of at most 2,147,483,647.
+/// Conditions: at most 50,000 payments, and a seed of at most 2,147,483,647.
 pub fn generate(alloc: Global, count: u32, seed: u32, out: &mut Vec<u8>) -> Result<(), NoMemory>
-    requires count { count ≤ 50000 }
-    requires seed { seed < 2147483648 }
+    requires count { count ≤ MAX_COUNT }
+    requires seed { seed ≤ MAX_SEED }
     ensures ok { OnOk result (out.new.items ≡ out.old.items ++ Loads.generated count seed) }
     ensures err { OnErr result (out.new.items ≡ out.old.items) }
 {

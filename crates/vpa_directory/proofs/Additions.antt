@@ -265,7 +265,13 @@ module _ (lines new : Setup) (banks psps : List Text) (accounts : List AccountRe
 -- the lines that are left begin with one that is refused
 pub refusal_of : (lines done rest : Setup) (l : SetupLine) (at : ℕ) (e : SetupFault) → done ++ l ∷ rest ≡ lines → at ≡ length done → is_setup done ≡ true
     → MatchOption (setup_fault done l) (IsOkUnless {T = Unit {0}} (Err e) fault.NoMemory) (λ w. ◌≡◌ {A = Result (Unit {0}) SetupFault} (Err e) (Err (told w))) → IsRefusal lines (record { at = at + 1; fault = e })
-refusal_of lines done rest l at e are place before refused = go (setup_fault done l) refl refused
+refusal_of lines done rest l at e are place before refused = record {
+  counted = omega arith;
+  before = ap is_setup front ∙ before;
+  line = l;
+  there = there;
+  reason_is = subst (λ (s : Setup). MatchOption (setup_fault s l) (e ≡ fault.NoMemory) (λ w. e ≡ told w)) (sym front) (go (setup_fault done l) refused);
+}
   where
     n_is : at + 1 - 1 ≡ length done
     n_is = omega (arith, place)
@@ -285,14 +291,6 @@ refusal_of lines done rest l at e are place before refused = go (setup_fault don
         here : slice_get (done ++ l ∷ rest) (length done) ≡ Some l
         here = slice_get-get_or (done ++ l ∷ rest) (length done) l inside ∙ ap (λ n. Some (get_or (done ++ l ∷ rest) n l)) zero_more ∙ ap (λ x. Some x) (get_or-append-add done (l ∷ rest) 0 l)
 
-    go : (o : Option Why) → setup_fault done l ≡ o → MatchOption o (IsOkUnless {T = Unit {0}} (Err e) fault.NoMemory) (λ w. ◌≡◌ {A = Result (Unit {0}) SetupFault} (Err e) (Err (told w))) → IsRefusal lines (record { at = at + 1; fault = e })
-    go None is h = inl h
-    go (Some w) is h = inr (record {
-      counted = omega arith;
-      before = ap is_setup front ∙ before;
-      line = l;
-      there = there;
-      why = w;
-      refused = ap (λ s. setup_fault s l) front ∙ is;
-      reason_is = cc;
-    })
+    go : (o : Option Why) → MatchOption o (IsOkUnless {T = Unit {0}} (Err e) fault.NoMemory) (λ w. ◌≡◌ {A = Result (Unit {0}) SetupFault} (Err e) (Err (told w))) → MatchOption o (e ≡ fault.NoMemory) (λ w. e ≡ told w)
+    go None h = h
+    go (Some w) h = cc

@@ -1,5 +1,5 @@
 -- Why a setup line is refused, as a directory tells it.
-use Rattle.std.specs.Prelude.{ℕ, ◌≡◌, ◌-◌, ◌≤◌, ◌⊎◌, true, take, slice_get, Some}
+use Rattle.std.specs.Prelude.{◌≡◌, ◌-◌, ◌≤◌, true, take, slice_get, Some, MatchOption}
 use Rattle.upi_base.specs.Names.{Setup}
 use Rattle.upi_base.specs.declared.setup.SetupLine.{SetupLine}
 use Rattle.upi_base.specs.declared.fault.Why.{Why}
@@ -9,7 +9,7 @@ use Rattle.vpa_directory.specs.declared.fault.SetupFault.{SetupFault}
 use Rattle.vpa_directory.specs.declared.fault.SetupFault.TheVariants as fault
 use Rattle.vpa_directory.specs.declared.fault.At.{At}
 
--- a reason for which a setup line is refused; there is none but these five
+-- a reason for which a setup line is refused, as a directory tells it: any that isn't one of the first four is the limit
 abbrev pub told : Why → SetupFault
 told why.Twice = fault.Twice
 told why.NoBank = fault.NoBank
@@ -17,16 +17,11 @@ told why.NoPsp = fault.NoPsp
 told why.NoAccount = fault.NoAccount
 told _ = fault.Limit
 
--- the line at this place, counted from 1, is the first that is refused, and this is the reason
-pub record IsFirstRefused (lines : Setup) (place : ℕ) (reason : SetupFault) : Type 0 where
-  pub counted : 1 ≤ place
-  pub before : is_setup (take (place - 1) lines) ≡ true
+-- Why a setup was refused: each line before the one at this place, counted from 1, was accepted;
+-- and that one was refused, and this is the reason, or there was no memory for it.
+pub record IsRefusal (lines : Setup) (at : At) : Type 0 where
+  pub counted : 1 ≤ at.at
+  pub before : is_setup (take (at.at - 1) lines) ≡ true
   pub line : SetupLine
-  pub there : slice_get lines (place - 1) ≡ Some line
-  pub why : Why
-  pub refused : setup_fault (take (place - 1) lines) line ≡ Some why
-  pub reason_is : reason ≡ told why
-
--- why a setup was refused: for want of memory, or for its first line that is refused
-abbrev pub IsRefusal : Setup → At → Type 0
-IsRefusal lines at = (at.fault ≡ fault.NoMemory) ⊎ IsFirstRefused lines at.at at.fault
+  pub there : slice_get lines (at.at - 1) ≡ Some line
+  pub reason_is : MatchOption (setup_fault (take (at.at - 1) lines) line) (at.fault ≡ fault.NoMemory) (λ why. at.fault ≡ told why)

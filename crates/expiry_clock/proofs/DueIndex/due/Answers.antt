@@ -7,6 +7,7 @@ use Rattle.upi_base.specs.Names.{Text}
 use Rattle.expiry_clock.specs.Dues.{Dues, Rows, due_rows}
 use Rattle.expiry_clock.specs.Tree.{rows_below}
 use Rattle.expiry_clock.proofs.DueLists.{is_due_list}
+use Rattle.expiry_clock.proofs.OneList.{one_list}
 use Rattle.expiry_clock.proofs.Finds.{below_root}
 use Rattle.expiry_clock.proofs.DueIndex.due.Goals as goal
 use Rattle.expiry_clock.proofs.DueIndex.due.Goals.{then-len-gt0+in_ok-collect, else-len-gt0}
@@ -35,3 +36,6 @@ returns-clause-list c =
     let once = subst (λ (d : Dues). IsDistinct bytes_eq (keys_of d.rows)) c.self.view_is c.len.ensures.unique in
     is_due_list c.args.now c.args.self.now c.sort_unstable.new.self.items once
     (subst (λ (l : List (ℕ × Text)). IsPermutation l c.sort_unstable.new.self.items) (found c) c.sort_unstable.ensures.permutation) c.sort_unstable.ensures.sorted
+
+pub returns-clause-only : goal.returns-clause-only
+returns-clause-only c = λ other is. one_list c.args.now c.args.self.now other c.sort_unstable.new.self.items is (returns-clause-list c)

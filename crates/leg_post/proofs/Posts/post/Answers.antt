@@ -1,11 +1,12 @@
 use Rattle.std.proofs.Common.{◌≡◌, ℕ, ◌+◌, ◌<◌, ◌^◌, ◌∙◌, List, [], ◌∷◌, ◌++◌, length, Option, Some, None, arith, sym, ap, subst}
+use Rattle.std.proofs.lemmas.Bool.{both_ways}
 use Rattle.upi_words.specs.Prelude.{Text, Kept, AccountRef, Order}
 use Rattle.bank_book.specs.Book.{Holdings, holding_of}
 use Rattle.leg_post.specs.declared.rows.LegKey.{LegKey}
 use Rattle.leg_post.specs.declared.rows.Posting.{Posting}
-use Rattle.leg_post.specs.Posts.{Ledger, order, says, legs_with, book_with}
+use Rattle.leg_post.specs.Posts.{Ledger, order, says, is_first, legs_with, book_with}
 use Rattle.leg_post.specs.calls.Rows.{Rows, legs_of, answer_in, key_of, IsWithin}
-use Rattle.leg_post.proofs.Answered.{said_before, said_first, legs_before, book_before, legs_first, book_first, within_after, count_is, count_more}
+use Rattle.leg_post.proofs.Answered.{said_before, said_first, first_is, legs_before, book_before, legs_first, book_first, within_after, count_is, count_more}
 use Rattle.leg_post.proofs.Runs.{says_is, stands_after}
 use Rattle.leg_post.proofs.Posts.post.Goals as goal
 
@@ -63,6 +64,11 @@ pub returns-clause-book : goal.returns-clause-book
 returns-clause-book c =
     book_first c.self.inside.legs.rows c.args.self.now (ap (λ (x : Ledger). x.legs) c.self.view_is) c.args.txn c.args.leg c.args.amount c.args.ac.now c.first_answer-answer.result
     c.self.inside.book c.move_money.new.book (ap (λ (x : Ledger). x.book) c.self.view_is) c.in_default.ensures (c.move_money.ensures c.args.ac.now (sym c.find.ensures.place ∙ c.unwrap-place.ensures))
+
+pub returns-clause-kept : goal.returns-clause-kept
+returns-clause-kept c = λ later.
+    let o : Order = order c.args.txn c.args.leg c.args.amount c.args.ac.now in
+    absurd (both_ways (is_first c.args.self.now.legs o) later (first_is c.self.inside.legs.rows c.args.self.now (ap (λ (x : Ledger). x.legs) c.self.view_is) c.args.txn c.args.leg c.args.amount c.args.ac.now c.in_default.ensures))
 
 pub returns-clause-stands : goal.returns-clause-stands
 returns-clause-stands c = λ S orders stands.
