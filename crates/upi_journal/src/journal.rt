@@ -67,7 +67,8 @@ impl<N: JournalName<E>, E: JournalEntry + Drop> Journal<N, E> {
             .append(&self.table.shared, owner, caller, entry)
     }
 
-    /// The pass sees the whole history. Its length is the answer.
+    /// The pass sees the history as the journal then shows it, no less than before. Its length is the
+    /// answer.
     pub fn look<R: Wait>(&self, rt: &R, pass: &mut Pass<N, E>) -> u64
         ensures length { result ≡ length pass.new.seen }
         ensures keeps { Keeps pass.old pass.new }
@@ -76,7 +77,8 @@ impl<N: JournalName<E>, E: JournalEntry + Drop> Journal<N, E> {
         self.home.lock(rt).look(&self.table.shared, pass)
     }
 
-    /// Both passes see the whole history, the same. Its length is the answer.
+    /// Both passes see one history, as the journal then shows it, no less than either saw before. Its
+    /// length is the answer.
     pub fn meet<R: Wait>(&self, rt: &R, one: &mut Pass<N, E>, other: &mut Pass<N, E>) -> u64
         ensures length { result ≡ length one.new.seen }
         ensures same { one.new.seen ≡ other.new.seen }
@@ -121,7 +123,8 @@ impl<N: JournalName<E>, E: JournalEntry + Drop> Journal<N, E> {
     /// The history, with `last` at its end. Whoever calls this is alone with the journal.
     ///
     /// Each pass handed in has as its own just what is its own in the history before `last`. Out of
-    /// memory, all comes back as it was.
+    /// memory, the passes and `last` come back as they were, and with them the journal, of which
+    /// contracts see nothing but its type.
     pub fn close(
         self,
         owners: Vec<Pass<N, E>>,

@@ -99,7 +99,8 @@ pub fn bring<E: JournalEntry>(
     board.join_seat::<FromHome>(to, note);
 }
 
-/// A seat looks at the history's length, and learns what follows from the rule.
+/// A seat looks at the history's length, and learns what follows from the rule. Home has seen so
+/// much; of a seat other than home nothing is said of the answer.
 pub fn look<E: JournalEntry>(board: &Board<E>, seat: &mut Seat<E, View<E>>) -> u64
     requires board { (seat.old.table_id ≡ board.now.table_id) × (board.now.table_id.words ≡ 2) }
     ensures board { (seat.new.table_id ≡ seat.old.table_id) × (seat.new.me ≡ seat.old.me) }
