@@ -50,7 +50,7 @@ impl Floor {
     /// Tells that a job was run and added so many. The answer is the moves so far, or `None` where
     /// the work is given up.
     ///
-    /// Who added one job takes it up himself, so nobody is woken for it.
+    /// Who added one job takes up one himself, so nobody is woken for it.
     pub fn ran<R: Wait>(&self, rt: &R, added: u64) -> Option<u64> {
         let mut work = self.work.lock(rt);
         work.left = work.left.saturating_add(added).saturating_sub(1);

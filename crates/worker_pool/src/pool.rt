@@ -25,11 +25,11 @@ pub struct Tally {
     pub taken: u64,
 }
 
-/// Runs the first jobs and all that they add, by one worker for each seat, 1 to 16, on threads of
-/// their own. It may wait.
+/// Runs the first jobs and all that they add, by one worker for each seat, 1 to 16, on a thread of
+/// its own where one can be made. It may wait.
 ///
-/// At `Ok` each job was run once by one seat, and put equals taken. A job that the queue hands back
-/// is run by the seat that made it. At `NoMemory` all workers have ended, and the jobs that are left
+/// At `Ok` each job was run once by one seat, and put equals taken; no clause says by which seat. At
+/// `NoMemory` all workers have ended, and the jobs that are left
 /// are dropped; the seats come back, but nothing more is known of them.
 pub fn drain<R: Threads + Wait + Sync, J: Job + Drop + Send, G: Gate + Sync>(
     rt: &R,
