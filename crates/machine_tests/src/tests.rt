@@ -50,9 +50,28 @@ fn legs_and_outcomes(rt: HostRuntime) -> Result<(), Fail> {
         assert!(rt; failing(kind, &SUCCESS_PATH, &SUCCESS)? == None);
         assert!(rt; failing(kind, &DEEMED_PATH, &DEEMED)? == None);
         assert!(rt; failing(kind, &DECLINED_PATH, &DECLINED)? == None);
+        assert!(rt; failing(kind, &DEBIT_DECLINED_PATH, &DEBIT_DECLINED)? == None);
         assert!(rt; failing(kind, &DEBIT_RETURNED_PATH, &DEBIT_RETURNED)? == None);
         assert!(rt; failing(kind, &CREDIT_RETURNED_PATH, &CREDIT_RETURNED)? == None);
+    }
+    Ok(())
+}
+
+#[test]
+fn closes(rt: HostRuntime) -> Result<(), Fail> {
+    assert!(rt; failing(Kind::Pay, &CLOSED_ASKING_PAY_PATH, &CLOSED_ASKING_PAY)? == None);
+    assert!(rt;
+        failing(
+            Kind::Collect,
+            &CLOSED_ASKING_COLLECT_PATH,
+            &CLOSED_ASKING_COLLECT
+        )? == None
+    );
+    for kind in [Kind::Pay, Kind::Collect] {
         assert!(rt; failing(kind, &CLOSED_DEBITING_PATH, &CLOSED_DEBITING)? == None);
+        assert!(rt; failing(kind, &CLOSED_CREDITING_PATH, &CLOSED_CREDITING)? == None);
+        assert!(rt; failing(kind, &CLOSED_REVERSING_DEBIT_PATH, &DEBIT_RETURNED)? == None);
+        assert!(rt; failing(kind, &CLOSED_REVERSING_CREDIT_PATH, &CREDIT_RETURNED)? == None);
     }
     Ok(())
 }
