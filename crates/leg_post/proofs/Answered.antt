@@ -1,12 +1,12 @@
 -- What is answered, kept and moved, by the table and the book.
-use Rattle.std.proofs.Common.{◌≡◌, ℕ, ◌+◌, ◌-◌, ◌*◌, ◌<◌, ◌≤◌, ◌^◌, Bool, true, false, cond, List, [], ◌∷◌, ◌++◌, length, map, Option, Some, None, refl, sym, ap, ◌∙◌, arith, length-append}
-use Rattle.std.specs.Prelude.{IsSome, is_some, is_none, ◌&&◌}
+use Rattle.std.proofs.Common.{◌≡◌, ℕ, ◌+◌, ◌*◌, ◌<◌, ◌≤◌, ◌^◌, Bool, true, false, cond, List, [], ◌∷◌, ◌++◌, length, Option, Some, None, refl, sym, ap, ◌∙◌, arith, length-append}
+use Rattle.std.specs.Prelude.{is_none, ◌&&◌}
 use Rattle.std.specs.Option.{option_or, option_map}
 use Rattle.std.proofs.lemmas.List.{length-map}
 use Rattle.upi_base.specs.declared.limits.TheConstants.{CREDIT_CAP, MAX_AMOUNT}
 use Rattle.upi_base.specs.Setup.{same_account}
 use Rattle.upi_base.proofs.Options.{some_same}
-use Rattle.upi_words.specs.Prelude.{Leg, Answer, AccountRef, Account, Order, Kept, Text}
+use Rattle.upi_words.specs.Prelude.{Leg, Answer, AccountRef, Kept, Text}
 use Rattle.upi_model.specs.Postings.{Answers, is_posted, post_at}
 use Rattle.upi_model.specs.Accounts.{kept_answer, moved_by}
 use Rattle.bank_book.specs.declared.Holding.{Holding}
@@ -14,7 +14,7 @@ use Rattle.bank_book.specs.Book.{Holdings, holding_of, with_balance, changed}
 use Rattle.bank_book.proofs.Changes.{holding_of-changed}
 use Rattle.leg_post.specs.declared.rows.LegKey.{LegKey}
 use Rattle.leg_post.specs.declared.rows.Posting.{Posting}
-use Rattle.leg_post.specs.Posts.{Ledger, order, present, has_now, posts, says, is_first, legs_with, book_with, IsBounded}
+use Rattle.leg_post.specs.Posts.{Ledger, order, present, has_now, posts, says, is_first, legs_with, book_with}
 use Rattle.leg_post.specs.calls.Rows.{Rows, leg_of, legs_of, answer_in, answers_in, key_of, nobody, moved_book, IsWithin}
 use Rattle.leg_post.proofs.Views.{answer_is, answers_are}
 

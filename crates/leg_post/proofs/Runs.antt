@@ -1,5 +1,5 @@
 -- Postings of orders over a setup: what the bank says to one order more, and that it is then one of them.
-use Rattle.std.proofs.Common.{◌≡◌, ℕ, ◌+◌, ◌-◌, ◌≤◌, ◌*◌, ◌<◌, ◌^◌, Bool, true, false, cond, List, [], ◌∷◌, ◌++◌, Option, Some, None, refl, sym, ap, subst, ◌∙◌, arith}
+use Rattle.std.proofs.Common.{◌≡◌, ℕ, Bool, true, false, cond, List, [], ◌∷◌, ◌++◌, Option, Some, None, refl, sym, ap, ◌∙◌, arith}
 use Rattle.std.specs.Prelude.{IsSome, is_some, is_none, ◌&&◌}
 use Rattle.std.specs.Option.{option_or, option_map}
 use Rattle.upi_base.specs.Lists.{joined}
@@ -7,13 +7,13 @@ use Rattle.upi_base.specs.Setup.{same_account, account_named}
 use Rattle.upi_base.proofs.Options.{some_same}
 use Rattle.upi_base.proofs.Setups.{account_name}
 use Rattle.upi_words.specs.Prelude.{Leg, Answer, AccountRef, Account, Order, Kept, Setup, Text}
-use Rattle.upi_model.specs.Postings.{Answers, is_posted, post_at, post_debit, post_credit, post_reversal}
-use Rattle.upi_model.specs.Accounts.{kept_answer, kept_balance, kept_post, kept_says, kept_move, keeps, moved_by, kept}
+use Rattle.upi_model.specs.Postings.{Answers, is_posted, post_at}
+use Rattle.upi_model.specs.Accounts.{kept_answer, kept_balance, kept_post, kept_says, kept_move, moved_by, kept}
 use Rattle.upi_laws.proofs.Accounts.{balances_run}
 use Rattle.bank_book.specs.declared.Holding.{Holding}
 use Rattle.bank_book.specs.Book.{Holdings, holding_of, with_balance, changed}
 use Rattle.bank_book.proofs.Changes.{holding_of-changed}
-use Rattle.leg_post.specs.Posts.{Ledger, present, has_now, posts, says, is_first, legs_with, book_with, held, opening, IsOpening, IsPosted}
+use Rattle.leg_post.specs.Posts.{Ledger, present, has_now, posts, says, legs_with, book_with, held, opening, IsOpening, IsPosted}
 
 -- the rule of posting reads of an account what it has and its flags
 post_here : (l : Leg) (answers : Answers) (ks : List Kept) (t : Text) (n : ℕ) (ac : AccountRef) (a : Account)

@@ -1,12 +1,12 @@
 -- The table of legs is the list of first arrivals.
-use Rattle.std.proofs.Common.{◌≡◌, ℕ, Bool, true, false, cond, List, [], ◌∷◌, Option, Some, None, refl, sym, ap, ◌∙◌}
+use Rattle.std.proofs.Common.{◌≡◌, Bool, true, false, cond, [], ◌∷◌, Some, None, refl, sym, ap, ◌∙◌}
 use Rattle.std.specs.Prelude.{◌&&◌}
 use Rattle.std.specs.Option.{option_or, option_map}
 use Rattle.std.specs.Map.{lookup}
 use Rattle.std.specs.Str.{bytes_eq}
 use Rattle.std.proofs.lemmas.Bool.{both_ways}
 use Rattle.std.proofs.lemmas.Slice.Eq.{bytes_eq-Decides}
-use Rattle.upi_words.specs.Prelude.{Leg, Answer, Text}
+use Rattle.upi_words.specs.Prelude.{Leg, Text}
 use Rattle.upi_model.specs.Places.{same_leg}
 use Rattle.upi_model.specs.Accounts.{kept_answer}
 use Rattle.leg_post.specs.contracts.rows.LegKeyPartialEq.TheImpl as derived

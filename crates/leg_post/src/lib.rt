@@ -3,15 +3,15 @@
 //! The bank answers a leg at the first arrival of an order for it, at the account that the order
 //! names; each later order for it is answered the same and moves nothing. Contracts see the legs
 //! that arrived, the book as it is now, and the room. Room is made ahead by `reserve`; nothing else
-//! takes memory.
+//! but `open` takes memory.
 #![tactic(auto)]
 
-ghost use Rattle.std.specs.Prelude.{◌≡◌, ◌+◌, ◌^◌, ◌<◌, ◌≤◌, ◌∷◌, [], List, Some, false, length, IsSome, IsOk, OnOk};
+ghost use Rattle.std.specs.Prelude.{◌≡◌, ◌+◌, ◌^◌, ◌<◌, ◌≤◌, ◌∷◌, ◌++◌, [], List, Some, None, false, length, IsSome, IsOk, OnOk, OnErr};
 ghost use Rattle.upi_words.specs.Prelude.{Order, Setup};
 ghost use Rattle.upi_base.specs.declared.limits.TheConstants.{MAX_AMOUNT};
 ghost use Rattle.upi_model.specs.Accounts;
 ghost use Rattle.bank_book.specs.Book.{holding_of};
-ghost use Rattle.leg_post.specs.Posts.{order, says, is_first, legs_with, book_with, IsBounded, IsOpening, IsPosted};
+ghost use Rattle.leg_post.specs.Posts.{order, says, is_first, legs_with, book_with, opening, IsBounded, IsOpening, IsPosted};
 
 mod rows;
 
@@ -21,7 +21,7 @@ use rows::{LegKey, Posting, Table, answer_in, first_answer, move_money};
 use std::alloc::Global;
 use std::hash::RandomState;
 use std::marker::Model;
-use upi_base::{AccountRef, Answer, Leg, NoMemory, Paise, TxnId};
+use upi_base::{Account, AccountRef, Answer, Leg, NoMemory, Paise, TxnId};
 
 /// The legs that arrived at a bank's accounts, and the accounts with what they have.
 #[derive(Drop)]
@@ -58,6 +58,25 @@ impl Posts {
         }
     }
 
+    /// Adds an account that isn't there, with what it opens with. It fails only for want of memory,
+    /// and then changes nothing.
+    #[tactic(auto, using(crate::proofs::Opens::within_more))]
+    pub fn open(&mut self, account: Account) -> Result<(), NoMemory>
+        requires { holding_of self.old.book account.ac ≡ None }
+        ensures ok { OnOk result (self.new ≡ record self.old { book = self.old.book ++ (account.ac, opening account) ∷ [] }) }
+        ensures err { OnErr result (self.new ≡ self.old) }
+    {
+        let Account {
+            ac,
+            opening,
+            no_debit,
+            no_credit,
+        } = account;
+        let _sum = opening.get();
+        self.book.add(ac, opening, no_debit, no_credit)?;
+        Ok(())
+    }
+
     /// Makes room for `n` legs more. It fails only for want of memory; legs and book stay either way.
     pub fn reserve(&mut self, n: usize) -> Result<(), NoMemory>
         ensures ok { OnOk result (n ≤ self.new.spare) }
@@ -89,6 +108,18 @@ impl Posts {
         ensures { result.now ≡ self.now.book }
     {
         &self.book
+    }
+
+    /// How a leg was answered, if an order for it has arrived: one look-up. It takes no memory.
+    pub fn answered(&self, txn: &TxnId, leg: Leg) -> Option<Answer>
+        ensures answer { result ≡ Accounts.kept_answer self.now.legs txn.now leg }
+        ensures definition { (S : Setup) (orders : List Order) → IsPosted S orders self.now → result ≡ Accounts.kept_answer (Accounts.kept S orders) txn.now leg }
+    {
+        let key = LegKey {
+            txn: txn.copy(),
+            leg,
+        };
+        answer_in(&self.legs, &key)
     }
 
     /// How the bank would answer an order for a leg now. It takes no memory.

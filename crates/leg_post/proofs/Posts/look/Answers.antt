@@ -1,6 +1,6 @@
-use Rattle.std.proofs.Common.{◌≡◌, ◌∙◌, List, Option, Some, sym, ap}
-use Rattle.upi_words.specs.Prelude.{Text, Kept}
-use Rattle.bank_book.specs.Book.{Holdings, holding_of}
+use Rattle.std.proofs.Common.{◌≡◌, ◌∙◌, Some, sym, ap}
+use Rattle.upi_words.specs.Prelude.{Text}
+use Rattle.bank_book.specs.Book.{holding_of}
 use Rattle.leg_post.specs.Posts.{Ledger, order, says}
 use Rattle.leg_post.specs.calls.Rows.{legs_of}
 use Rattle.leg_post.proofs.Answered.{said_before, said_first}

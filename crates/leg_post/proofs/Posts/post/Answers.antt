@@ -1,11 +1,9 @@
-use Rattle.std.proofs.Common.{◌≡◌, ℕ, ◌+◌, ◌<◌, ◌^◌, ◌∙◌, List, [], ◌∷◌, ◌++◌, length, Option, Some, None, arith, sym, ap, subst}
+use Rattle.std.proofs.Common.{◌≡◌, ℕ, ◌+◌, ◌<◌, ◌^◌, ◌∙◌, [], ◌∷◌, ◌++◌, length, Some, arith, sym, ap, subst}
 use Rattle.std.proofs.lemmas.Bool.{both_ways}
-use Rattle.upi_words.specs.Prelude.{Text, Kept, AccountRef, Order}
+use Rattle.upi_words.specs.Prelude.{AccountRef, Order}
 use Rattle.bank_book.specs.Book.{Holdings, holding_of}
-use Rattle.leg_post.specs.declared.rows.LegKey.{LegKey}
-use Rattle.leg_post.specs.declared.rows.Posting.{Posting}
-use Rattle.leg_post.specs.Posts.{Ledger, order, says, is_first, legs_with, book_with}
-use Rattle.leg_post.specs.calls.Rows.{Rows, legs_of, answer_in, key_of, IsWithin}
+use Rattle.leg_post.specs.Posts.{Ledger, order, is_first}
+use Rattle.leg_post.specs.calls.Rows.{Rows, legs_of, key_of, IsWithin}
 use Rattle.leg_post.proofs.Answered.{said_before, said_first, first_is, legs_before, book_before, legs_first, book_first, within_after, count_is, count_more}
 use Rattle.leg_post.proofs.Runs.{says_is, stands_after}
 use Rattle.leg_post.proofs.Posts.post.Goals as goal
