@@ -44,6 +44,7 @@ impl CollectMachine {
     /// amount; else nothing changes, and nothing is sent.
     pub fn hear_auth(&mut self, amount: Paise, yes: bool, now: Moment) -> Move
         ensures follows { Follows.HearsAuth self.old self.new result amount yes now }
+        ensures tells { Follows.Tells self.old self.new result }
         ensures quiet { result.wants ≡ Wants.Nothing → self.new ≡ self.old }
         ensures ended { (x : Stands.Transaction) → Stands.IsOf self.old x → Follows.IsOver self.old x → result.wants ≡ Wants.Nothing }
     {
@@ -54,6 +55,7 @@ impl CollectMachine {
     /// changes, and nothing is sent.
     pub fn hear_leg(&mut self, leg: Leg, answer: Answer, now: Moment) -> Move
         ensures follows { Follows.HearsLeg self.old self.new result leg answer now }
+        ensures tells { Follows.Tells self.old self.new result }
         ensures quiet { result.wants ≡ Wants.Nothing → self.new ≡ self.old }
         ensures ended { (x : Stands.Transaction) → Stands.IsOf self.old x → Follows.IsOver self.old x → result.wants ≡ Wants.Nothing }
     {
@@ -65,6 +67,7 @@ impl CollectMachine {
     /// changes, and nothing is sent.
     pub fn late(&mut self, now: Moment) -> Move
         ensures follows { Follows.Lates self.old self.new result now }
+        ensures tells { Follows.Tells self.old self.new result }
         ensures quiet { result.wants ≡ Wants.Nothing → self.new ≡ self.old }
         ensures ended { (x : Stands.Transaction) → Stands.IsOf self.old x → Follows.IsOver self.old x → result ≡ record { reply = Reply.NotDue; wants = Wants.Nothing } }
     {

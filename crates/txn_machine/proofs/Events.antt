@@ -1,6 +1,6 @@
 -- What each event makes of a machine at each stage: what the rules make of its transaction.
 use Rattle.std.proofs.Common.{◌≡◌, ℕ, Bool, true, false, List, Option, Some, None, refl, sym, ◌∙◌, ap, subst, append-nil, arith}
-use Rattle.std.specs.Prelude.{nat_lt, nat_le, not, ◌==◌, ◌&&◌}
+use Rattle.std.specs.Prelude.{nat_lt, nat_le, not, ◌==◌, ◌&&◌, ◌||◌, is_some}
 use Rattle.std.specs.Option.{option_or}
 use Rattle.std.specs.List.{list_any}
 use Rattle.std.specs.Str.{bytes_eq}
@@ -19,7 +19,7 @@ use Rattle.txn_machine.specs.declared.stage.{Stage.Stage}
 use Rattle.txn_machine.specs.declared.moves.{Step.Step, Wants.Wants}
 use Rattle.txn_machine.specs.declared.machine.{Machine.Machine}
 use Rattle.txn_machine.specs.Stands.{Transaction, IsOf, stands, machine_of, sendings_of, returned_of}
-use Rattle.txn_machine.specs.Follows.{Follows, IsAnswer, IsOver, messages, onward, is_due, sent_then}
+use Rattle.txn_machine.specs.Follows.{Follows, Tells, IsAnswer, IsOver, is_told, messages, onward, is_due, sent_then}
 use Rattle.txn_machine.specs.calls.Steps.{auth_by, auth_step, leg_answered, due_at, late_if, late_step, taken, move_of}
 
 self_is : (t : Text) → bytes_eq t t ≡ true
@@ -53,6 +53,10 @@ wants_order x (Some y) Wants.Outcome now k a is = refl
 -- the outcome is wanted after a step only where there is one
 abbrev Told : Transaction → Stage → Step → ℕ → Type 0
 Told x s p now = p.wants ≡ Wants.Outcome → IsOver (taken (machine_of x.opening s) p) (onward (machine_of x.opening s) x now)
+
+-- the transaction has its outcome after a step where it had it before, or where the step wants it
+abbrev Comes : Transaction → Stage → Step → Type 0
+Comes x s p = is_some (outcome_on (stands (taken (machine_of x.opening s) p) x)) ≡ (is_some (outcome_on (stands (machine_of x.opening s) x)) || is_told p.wants)
 
 -- what an event makes of a machine, from its parts
 follows_by : (x : Transaction) (s : Stage) (p : Step) (e : Event) (now : ℕ)
@@ -156,6 +160,20 @@ leg_over x s Leg.Debit a now over = refl
 leg_over x s Leg.Credit a now over = refl
 leg_over x s Leg.Reversal a now over = refl
 
+leg_comes : (x : Transaction) (s : Stage) (l : Leg) (a : Answer) (now : ℕ) → Comes x s (leg_answered s a now l)
+leg_comes x (Stage.Debiting k) Leg.Debit Answer.Posted now = refl
+leg_comes x (Stage.Debiting k) Leg.Debit (Answer.Declined c) now = refl
+leg_comes x (Stage.Crediting k d) Leg.Credit Answer.Posted now = refl
+leg_comes x (Stage.Crediting k d) Leg.Credit (Answer.Declined c) now = refl
+leg_comes x s Leg.Debit a now = refl
+leg_comes x s Leg.Credit a now = refl
+leg_comes x (Stage.DebitLate k r) Leg.Reversal a now = refl
+leg_comes x (Stage.CreditDeclined k d c r) Leg.Reversal a now = refl
+leg_comes x s Leg.Reversal a now = refl
+
+pub leg_tells : (old : Machine) (l : Leg) (a : Answer) (now : ℕ) → Tells old (taken old (leg_answered old.stage a now l)) (move_of (leg_answered old.stage a now l))
+leg_tells old l a now = λ x. leg_comes x old.stage l a now
+
 pub leg_follows : (old : Machine) (l : Leg) (a : Answer) (now : ℕ) (x : Transaction) → IsOf old x
     → Follows old (taken old (leg_answered old.stage a now l)) (move_of (leg_answered old.stage a now l)) x (Event.Answered x.opening.terms.txn l a) now
 leg_follows old l a now x is =
@@ -254,6 +272,19 @@ late_over x (Stage.DebitLate k r) true now over = absurd (cc (over))
 late_over x (Stage.CreditDeclined k d c r) true now over = absurd (cc (over))
 late_over x s true now over = refl
 
+late_comes : (x : Transaction) (s : Stage) (b : Bool) (now : ℕ) → Comes x s (late_if b now s)
+late_comes x Stage.Asking true now = refl
+late_comes x (Stage.Debiting k) true now = refl
+late_comes x (Stage.Crediting k d) true now = refl
+late_comes x (Stage.DebitLate k r) true now = refl
+late_comes x (Stage.CreditDeclined k d c r) true now = refl
+late_comes x s true now = refl
+late_comes x Stage.Asking false now = refl
+late_comes x s false now = refl
+
+pub late_tells : (old : Machine) (now : ℕ) → Tells old (taken old (late_step old now)) (move_of (late_step old now))
+late_tells old now = λ x. late_comes x old.stage (passed now (due_at old.due old.stage)) now
+
 late_at : (x : Transaction) (s : Stage) (b : Bool) (now : ℕ) → passed now (due_at (due_answer x.opening) s) ≡ b
     → Follows (machine_of x.opening s) (taken (machine_of x.opening s) (late_if b now s)) (move_of (late_if b now s)) x (Event.Late x.opening.terms.txn) now
 late_at x s b now e =
@@ -343,6 +374,17 @@ auth_over : (x : Transaction) (s : Stage) (k : Kind) (word right late : Bool) (n
 auth_over x s k word false late now over = refl
 auth_over x Stage.Asking k word true late now over = absurd (cc (over))
 auth_over x s k word true late now over = refl
+
+auth_comes : (x : Transaction) (s : Stage) (k : Kind) (word right late : Bool) (now : ℕ) → Comes x s (auth_by right late k word now s)
+auth_comes x Stage.Asking k word false late now = refl
+auth_comes x s k word false late now = refl
+auth_comes x Stage.Asking k word true true now = refl
+auth_comes x Stage.Asking k true true false now = refl
+auth_comes x Stage.Asking k false true false now = refl
+auth_comes x s k word true late now = refl
+
+pub auth_tells : (old : Machine) (amount : ℕ) (word : Bool) (now : ℕ) → Tells old (taken old (auth_step old amount word now)) (move_of (auth_step old amount word now))
+auth_tells old amount word now = λ x. auth_comes x old.stage old.kind word (amount == old.amount) (nat_le old.due now) now
 
 pub auth_follows : (old : Machine) (now : ℕ) (x : Transaction) (psp : Text) (a : AuthWord) → IsOf old x → IsAnswer x psp a
     → Follows old (taken old (auth_step old a.amount a.yes now)) (move_of (auth_step old a.amount a.yes now)) x (Event.Heard psp (Said.Auth a)) now

@@ -5,7 +5,9 @@ use Rattle.upi_base.proofs.Options.{or_none, or_nothing, then_none}
 use Rattle.upi_model.specs.Places.{decides_on, ends_on, reverses_on, due_debit, due_credit, cause_by}
 use Rattle.upi_model.specs.Standing.{advance}
 use Rattle.txn_machine.specs.declared.machine.{Machine.Machine}
-use Rattle.txn_machine.specs.Stands.{Transaction, stands, decision_of, debit_end_of, credit_end_of, reversal_end_of}
+use Rattle.txn_machine.specs.Stands.{Transaction, stands, machine_of, decision_of, debit_end_of, credit_end_of, reversal_end_of}
+use Rattle.txn_machine.specs.declared.stage.{Stage.Stage}
+use Rattle.txn_machine.specs.Follows.{IsOver}
 use Rattle.txn_machine.specs.MachineLaws.{MachineLaws, concerns, heard_of}
 use Rattle.txn_machine.proofs.Pinned.{one_machine, one_move}
 
@@ -48,5 +50,15 @@ closed m x e now = λ i. record {
   acknowledged = (heard_of m x e now).acknowledged;
 }
 
+-- a stage at which there is an outcome awaits nothing
+over_at : (x : Transaction) (s : Stage) (e : Event) (now : ℕ) → IsOver (machine_of x.opening s) x
+    → advance x.setup x.opening.terms.txn x.room false (stands (machine_of x.opening s) x) e now ≡ stands (machine_of x.opening s) (heard_of (machine_of x.opening s) x e now)
+over_at x Stage.Asking e now over = absurd (cc (over))
+over_at x (Stage.Debiting k) e now over = absurd (cc (over))
+over_at x (Stage.DebitLate k r) e now over = absurd (cc (over))
+over_at x (Stage.Crediting k d) e now over = absurd (cc (over))
+over_at x (Stage.CreditDeclined k d c r) e now over = absurd (cc (over))
+over_at x s e now over = refl
+
 pub machine_laws : MachineLaws
-machine_laws = record { others = others; closed = closed; one_machine = one_machine; one_move = one_move }
+machine_laws = record { others = others; closed = closed; over = λ m x e now is. over_at x m.stage e now is; one_machine = one_machine; one_move = one_move }

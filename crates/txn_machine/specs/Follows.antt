@@ -1,5 +1,5 @@
 -- What an event makes of a machine: what the rules of the model make of the transaction for which it stands.
-use Rattle.std.specs.Prelude.{ℕ, ◌≡◌, Bool, true, false, List, [], Option, Some, None, is_some}
+use Rattle.std.specs.Prelude.{ℕ, ◌≡◌, Bool, true, false, ◌||◌, List, [], Option, Some, None, is_some}
 use Rattle.std.specs.Str.{bytes_eq}
 use Rattle.upi_words.specs.Prelude.{Kind, Leg, Answer, Outcome, PayReq, Sent, Account, AuthWord, Said, Event, Setup, Text}
 use Rattle.upi_base.specs.Setup.{account_at}
@@ -62,6 +62,16 @@ sent_then old new x e now = sent_between x.setup (is_due old x now) (stands old 
 -- the transaction has its outcome
 abbrev pub IsOver : Machine → Transaction → Type 0
 IsOver m x = is_some (outcome_on (stands m x)) ≡ true
+
+-- it is the outcome that is wanted
+abbrev pub is_told : Wants → Bool
+is_told Wants.Outcome = true
+is_told _ = false
+
+-- Whatever transaction it is: it has its outcome after an event where it had it before, or where the outcome is wanted.
+-- So an outcome that comes is told, and one that is wanted has come.
+abbrev pub Tells : Machine → Machine → Move → Type 0
+Tells old new move = (x : Transaction) → is_some (outcome_on (stands new x)) ≡ (is_some (outcome_on (stands old x)) || is_told move.wants)
 
 -- Before a Close: what an event makes of the machine of a transaction, and what is replied and sent.
 pub record Follows (old new : Machine) (move : Move) (x : Transaction) (e : Event) (now : ℕ) : Type 0 where

@@ -10,7 +10,7 @@ use Rattle.upi_model.specs.Standing.{outcome_on, advance}
 use Rattle.txn_machine.specs.declared.moves.{Move.Move}
 use Rattle.txn_machine.specs.declared.machine.{Machine.Machine}
 use Rattle.txn_machine.specs.Stands.{Transaction, stands}
-use Rattle.txn_machine.specs.Follows.{Follows}
+use Rattle.txn_machine.specs.Follows.{Follows, IsOver}
 
 -- the event is one that a machine hears of: an answer of its asked PSP, with no account that differs from the setup's, a bank's answer, a Late, or a Close
 abbrev pub concerns : Transaction → Event → Bool
@@ -44,6 +44,9 @@ pub record MachineLaws : Type 0 where
   -- so does every event after a Close
   pub closed : (m : Machine) (x : Transaction) (e : Event) (now : ℕ)
       → advance x.setup x.opening.terms.txn x.room true (stands m x) e now ≡ stands m (heard_of m x e now)
+  -- and so does every event before a Close of a transaction that has its outcome
+  pub over : (m : Machine) (x : Transaction) (e : Event) (now : ℕ) → IsOver m x
+      → advance x.setup x.opening.terms.txn x.room false (stands m x) e now ≡ stands m (heard_of m x e now)
   -- they are one machine: an event leaves one stage that follows the rules
   pub one_machine : (old new other : Machine) (move moved : Move) (x : Transaction) (e : Event) (now : ℕ) → BothFollow old new other move moved x e now → new ≡ other
   -- they are one move: one reply follows the rules, and one thing that is wanted

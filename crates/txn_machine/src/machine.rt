@@ -144,6 +144,7 @@ impl Machine {
     /// amount. Else nothing changes, and nothing is sent.
     pub fn hear_auth(&mut self, amount: Paise, yes: bool, now: Moment) -> Move
         ensures follows { Follows.HearsAuth self.old self.new result amount yes now }
+        ensures tells { Follows.Tells self.old self.new result }
         ensures quiet { result.wants ≡ Wants.Nothing → self.new ≡ self.old }
         ensures ended { (x : Stands.Transaction) → Stands.IsOf self.old x → Follows.IsOver self.old x → result.wants ≡ Wants.Nothing }
     {
@@ -157,6 +158,7 @@ impl Machine {
     /// nothing changes, and nothing is sent.
     pub fn hear_leg(&mut self, leg: Leg, answer: Answer, now: Moment) -> Move
         ensures follows { Follows.HearsLeg self.old self.new result leg answer now }
+        ensures tells { Follows.Tells self.old self.new result }
         ensures quiet { result.wants ≡ Wants.Nothing → self.new ≡ self.old }
         ensures ended { (x : Stands.Transaction) → Stands.IsOf self.old x → Follows.IsOver self.old x → result.wants ≡ Wants.Nothing }
     {
@@ -171,6 +173,7 @@ impl Machine {
     /// and nothing is sent.
     pub fn late(&mut self, now: Moment) -> Move
         ensures follows { Follows.Lates self.old self.new result now }
+        ensures tells { Follows.Tells self.old self.new result }
         ensures quiet { result.wants ≡ Wants.Nothing → self.new ≡ self.old }
         ensures ended { (x : Stands.Transaction) → Stands.IsOf self.old x → Follows.IsOver self.old x → result ≡ record { reply = Reply.NotDue; wants = Wants.Nothing } }
     {

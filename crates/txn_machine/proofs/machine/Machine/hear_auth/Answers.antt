@@ -1,4 +1,4 @@
-use Rattle.txn_machine.proofs.Events.{auth_follows, auth_still, auth_ended}
+use Rattle.txn_machine.proofs.Events.{auth_follows, auth_still, auth_ended, auth_tells}
 use Rattle.txn_machine.proofs.machine.Machine.hear_auth.Goals as goal
 
 pub returns-clause-follows : goal.returns-clause-follows
@@ -9,3 +9,6 @@ returns-clause-quiet c = rw (c.take.ensures.machine, c.take.ensures.answer, c.au
 
 pub returns-clause-ended : goal.returns-clause-ended
 returns-clause-ended c = rw (c.take.ensures.answer, c.auth_step-step.ensures) (auth_ended c.args.self.now c.args.amount c.args.yes c.args.now)
+
+pub returns-clause-tells : goal.returns-clause-tells
+returns-clause-tells c = rw (c.take.ensures.machine, c.take.ensures.answer, c.auth_step-step.ensures) (auth_tells c.args.self.now c.args.amount c.args.yes c.args.now)
