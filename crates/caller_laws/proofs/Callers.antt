@@ -158,19 +158,25 @@ come_same S h c = λ i. known_same S h c i && (nat_lt (length_same h i) MAX_ENTR
 
 legal_without : (S : Setup) (h : History) → Legal S h → Legal S (without_callers h)
 legal_without S [] l = tt
-legal_without S (e ∷ h) l = (legal_without S h l.0, record {
-  comes = come_same S h e.call ∙ l.1.comes;
-  replied = l.1.replied ∙ sym (reply_same S h e.call e.at);
-  sends = l.1.sends ∙ sym (messages_same S h e.call e.at);
-})
+legal_without S (e ∷ h) l = (
+  legal_without S h l.0,
+  record {
+    comes = come_same S h e.call ∙ l.1.comes;
+    replied = l.1.replied ∙ sym (reply_same S h e.call e.at);
+    sends = l.1.sends ∙ sym (messages_same S h e.call e.at);
+  },
+)
 
 legal_within : (S : Setup) (h : History) → Legal S (without_callers h) → Legal S h
 legal_within S [] l = tt
-legal_within S (e ∷ h) l = (legal_within S h l.0, record {
-  comes = sym (come_same S h e.call) ∙ l.1.comes;
-  replied = l.1.replied ∙ reply_same S h e.call e.at;
-  sends = l.1.sends ∙ messages_same S h e.call e.at;
-})
+legal_within S (e ∷ h) l = (
+  legal_within S h l.0,
+  record {
+    comes = sym (come_same S h e.call) ∙ l.1.comes;
+    replied = l.1.replied ∙ reply_same S h e.call e.at;
+    sends = l.1.sends ∙ messages_same S h e.call e.at;
+  },
+)
 
 -- ---- the report
 

@@ -1,5 +1,6 @@
 //! Who makes a call never matters: a law of histories that differ in their callers alone.
 #![tactic(auto)]
+
 ghost use Rattle.caller_laws.specs.CallerLaws;
 
 /// Histories that differ in nothing but their callers are legal together. After them the same calls
