@@ -23,9 +23,13 @@ body_text (body.Result txn kind outcome req_msg) = codes "RESPPAY" ++ spaced txn
 body_text (body.Confirm txn kind outcome) = codes "CONFIRM" ++ spaced txn ++ spaced (outcome_text outcome)
 body_text (body.Confirmed txn) = codes "CONFIRMED" ++ spaced txn
 
--- `M n from to` and what the message says
+-- `M n from to` and what the message says, without the end of the line
+abbrev pub message_line : ℕ → Sent → List ℕ
+message_line n s = codes "M" ++ spaced (decimal n) ++ spaced (party_text s.from) ++ spaced (party_text s.to) ++ spaced (body_text s.body)
+
+-- the same, with the end of the line
 abbrev pub sent_line : ℕ → Sent → List ℕ
-sent_line n s = codes "M" ++ spaced (decimal n) ++ spaced (party_text s.from) ++ spaced (party_text s.to) ++ spaced (body_text s.body) ++ 10 ∷ []
+sent_line n s = message_line n s ++ 10 ∷ []
 
 -- the lines of messages that are numbered from `first`
 abbrev pub sent_lines : ℕ → List Sent → List ℕ

@@ -1,7 +1,7 @@
 //! The lines of a journal.
 ghost use Rattle.std.specs.Prelude.{◌≡◌, ◌++◌, ◌+◌, ◌<◌, ◌^◌, length, IfOk, OnOk, OnErr};
 ghost use Rattle.upi_text.specs.Pieces.{spaced};
-ghost use Rattle.upi_text.specs.Journal.{body_text, sent_line as sent_line_of, sent_lines, heard_text, call_text, entry_line as entry_line_of, entry_lines};
+ghost use Rattle.upi_text.specs.Journal.{body_text, message_line as message_line_of, sent_line as sent_line_of, sent_lines, heard_text, call_text, entry_line as entry_line_of, entry_lines};
 
 use crate::pieces::{
     fault_word, party_word, push, push_account, push_answer, push_number, push_outcome, push_reply,
@@ -72,15 +72,23 @@ fn push_body(body: &Body, out: &mut Vec<u8>) -> Result<(), NoMemory>
     }
 }
 
-// Appends the line of a message of a number.
-fn push_sent(n: u64, sent: &Sent, out: &mut Vec<u8>) -> Result<(), NoMemory>
-    ensures { OnOk result (out.new.items ≡ out.old.items ++ sent_line_of n sent.now) }
+/// Appends the M line of a message of a number, without its end. At want of memory a part may be
+/// appended.
+pub fn message_line(n: u64, sent: &Sent, out: &mut Vec<u8>) -> Result<(), NoMemory>
+    ensures { OnOk result (out.new.items ≡ out.old.items ++ message_line_of n sent.now) }
 {
     push(b"M", out)?;
     push_number(n, out)?;
     push_word(party_word(&sent.from), out)?;
     push_word(party_word(&sent.to), out)?;
-    push_body(&sent.body, out)?;
+    push_body(&sent.body, out)
+}
+
+// Appends the line of a message of a number.
+fn push_sent(n: u64, sent: &Sent, out: &mut Vec<u8>) -> Result<(), NoMemory>
+    ensures { OnOk result (out.new.items ≡ out.old.items ++ sent_line_of n sent.now) }
+{
+    message_line(n, sent, out)?;
     push(b"\n", out)
 }
 

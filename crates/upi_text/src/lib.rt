@@ -8,7 +8,8 @@ pub mod setup;
 pub mod setup_text;
 pub mod words;
 
-pub use journal::entry_text;
+pub use journal::{entry_text, message_line};
+pub use pieces::fault_word;
 pub use refusal::Refusal;
 pub use setup::SetupRead;
 pub use setup_text::{SetupStep, SetupText};

@@ -63,7 +63,7 @@ pub(crate) fn policy_word(policy: Policy) -> &'static [u8]
 }
 
 /// How the fault of a message is written.
-pub(crate) fn fault_word(why: MsgWhy) -> &'static [u8]
+pub fn fault_word(why: MsgWhy) -> &'static [u8]
     ensures { result.now ≡ fault_text why }
 {
     match why {
