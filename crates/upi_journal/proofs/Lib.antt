@@ -4,3 +4,4 @@ pub mod Seats
 pub mod Passes
 pub mod Counts
 pub mod Homes
+pub mod Closing

@@ -1,7 +1,8 @@
 -- Beginnings of lists, and the entries that are picked from them.
-use Rattle.std.proofs.Common.{◌≡◌, ℕ, suc, ◌+◌, ◌≤◌, Bool, true, false, List, [], ◌∷◌, ◌++◌, length, refl, ap, sym, ◌∙◌, arith, append_assoc, length-append}
+use Rattle.std.proofs.Common.{◌≡◌, ℕ, suc, ◌+◌, ◌≤◌, Bool, true, false, List, [], ◌∷◌, ◌++◌, length, refl, ap, sym, subst, ◌∙◌, arith, append_assoc, length-append}
 use Rattle.std.proofs.lemmas.List.{append-nil}
-use Rattle.std.specs.Prelude.{if◌then◌else◌}
+use Rattle.std.proofs.lemmas.List.Elements.{Contains-append_left, Contains-push}
+use Rattle.std.specs.Prelude.{if◌then◌else◌, Contains}
 use mathlib.Core.List.{IsPrefix}
 use Rattle.upi_journal.specs.Entries.{picked}
 
@@ -80,6 +81,13 @@ module _ {A : Type 0} where
   -- what is picked from a beginning begins what is picked from the whole
   pub picked-prefix : (p : A → Bool) (xs ys : List A) → IsPrefix xs ys → IsPrefix (picked p 1 xs) (picked p 1 ys)
   picked-prefix p xs ys pre = (picked p (1 + length xs) pre.0, sym (picked-append p 1 xs pre.0) ∙ ap (λ l. picked p 1 l) pre.1)
+
+  -- what is picked has each element that passes, at its place
+  pub picked-has : (p : A → Bool) (h : List A) (e : A) (l : List A) → p e ≡ true → IsPrefix (h ++ e ∷ []) l → Contains (picked p 1 l) (length h + 1, e)
+  picked-has p h e l in_it pre =
+      let begins = picked-prefix p (h ++ e ∷ []) l pre in
+      let all : (picked p 1 h ++ (length h + 1, e) ∷ []) ++ begins.0 ≡ picked p 1 l = ap (λ xs. xs ++ begins.0) (sym (picked-push_in p h e in_it)) ∙ begins.1 in
+      subst (λ xs. Contains xs (length h + 1, e)) all (Contains-append_left (picked p 1 h ++ (length h + 1, e) ∷ []) begins.0 (length h + 1, e) (Contains-push (picked p 1 h) (length h + 1, e)))
 
   -- a list that goes on with a picked entry has more that is picked
   pub picked-more : (p : A → Bool) (h : List A) (e : A) (l : List A) → p e ≡ true → IsPrefix (h ++ e ∷ []) l → picked p 1 l ≡ picked p 1 h → ⊥

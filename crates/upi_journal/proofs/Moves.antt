@@ -255,6 +255,7 @@ module _ {E : Type 0} (k : Marks E) (before : List E) where
         },
         (
           refl,
+          omega (arith, ap (λ ws. slice_index ws 0) r.words, prefix_length v.seen r.log f.seen),
           (λ home. (ap (λ ws. slice_index ws 0) r.words ∙ sym (ap length (f.all home)), subst (λ l. IsPrefix v.old l) (sym (f.all home)) f.old)),
           (λ known. subst (IsPrefix (own k v.role v.seen)) (sym f.mine) (taken_of v.seen r.owners r.callers r.log f.seen r.some_of r.fewer (omega arith) v.role)),
         ),

@@ -1,5 +1,5 @@
 -- Passes as contracts see them, and what each call does to them.
-use Rattle.std.specs.Prelude.{◌≡◌, ◌⊎◌, ℕ, zero, suc, ◌+◌, ◌≤◌, ◌<◌, List, [], ◌∷◌, ◌++◌, length, Option, option_to_list, All}
+use Rattle.std.specs.Prelude.{◌≡◌, ◌⊎◌, ℕ, zero, suc, ◌+◌, ◌≤◌, ◌<◌, List, [], ◌∷◌, ◌++◌, length, Option, option_to_list, All, Any, Contains}
 use mathlib.Core.List.{IsPrefix}
 use Rattle.upi_journal.specs.declared.view.View.{View}
 use Rattle.upi_journal.specs.declared.view.Role.{Role}
@@ -39,6 +39,18 @@ module _ {E : Type 0} where
   HasPass s (Owner o) = o < s.owners
   HasPass s (Caller c) = (s.first ≤ c) × (c < s.first + s.callers)
   HasPass s Note = ⊥
+
+  -- among the passes is one of each owner
+  abbrev pub HasOwners : Shape E → List (Front E) → Type 0
+  HasOwners s passes = (o : ℕ) → o < s.owners → Any (λ p. p.role ≡ Owner o) passes
+
+  -- among the passes is one of each caller
+  abbrev pub HasCallers : Shape E → List (Front E) → Type 0
+  HasCallers s passes = (n : ℕ) → s.first ≤ n → n < s.first + s.callers → Any (λ p. p.role ≡ Caller n) passes
+
+  -- each entry that the history has beyond what the journal begins with is, at its place, one of a pass's own
+  abbrev pub AreOwn : Shape E → List E → List (Front E) → Type 0
+  AreOwn s history passes = (h : List E) (e : E) → IsPrefix (h ++ e ∷ []) history → length s.before ≤ length h → Any (λ p. Contains p.mine (length h + 1, e)) passes
 
   -- the pass is as before, but that it may have seen more
   pub record Keeps (old new : Front E) : Type 0 where
@@ -91,10 +103,12 @@ module _ {E : Type 0} (m : Marks E) (c : Charter E) where
     pub mine : p.mine ≡ own m p.role p.seen
     pub history : IsHistory m c p.seen
 
-  -- what a close gives: a history of the journal, of which each pass handed in has all that is its own, and the last entry behind it
+  -- what a close gives: a history of the journal, of which each pass handed in has all that is its own, and the last entry behind it. Where the passes of all owners were handed in, each entry that was appended is one's own of these; and so with those of all callers
   pub record Closes (owners callers : List (Front E)) (last : Option E) (all : List E) : Type 0 where
     pub history : List E
     pub all_is : all ≡ history ++ option_to_list last
     pub right : IsHistory m c history
     pub of_owners : All (IsWhole m history) owners
     pub of_callers : All (IsWhole m history) callers
+    pub by_owners : HasOwners c.shape owners → AreOwn c.shape history owners
+    pub by_callers : HasCallers c.shape callers → AreOwn c.shape history callers

@@ -99,10 +99,10 @@ module _ {E : Type 0} (m : Marks E) where
   abbrev pub new_caller : View E → View E
   new_caller v = seat_of (Caller v.callers_made) v
 
-  -- the home seat finds the history's length, and that what it was told begins the history. A seat that knows the phase at which all that it has seen was taken finds that it has its own entries of that
+  -- the history is at least as long as what the seat has seen. The home seat finds just its length, and that what it was told begins the history. A seat that knows the phase at which all that it has seen was taken finds that it has its own entries of that
   abbrev pub Looks : Step E → Me E (View E) → ℕ → Me E (View E) → Type 0
   Looks s v found w =
-      (w ≡ v) × (v.0.role ≡ Home → (found ≡ length v.0.seen) × IsPrefix v.0.old v.0.seen)
+      (w ≡ v) × (length v.0.seen ≤ found) × (v.0.role ≡ Home → (found ≡ length v.0.seen) × IsPrefix v.0.old v.0.seen)
       × (length v.0.seen + length v.0.seen ≤ v.0.known → IsPrefix (own v.0.role v.0.seen) v.0.mine)
 
   -- what holds of one seat, where this is the history, and owners and callers have taken so much of it

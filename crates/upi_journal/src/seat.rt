@@ -99,11 +99,12 @@ pub fn bring<E: JournalEntry>(
     board.join_seat::<FromHome>(to, note);
 }
 
-/// A seat looks at the history's length, and learns what follows from the rule. Home has seen so
-/// much; of a seat other than home nothing is said of the answer.
+/// A seat looks at the history's length, which is the answer, and learns what follows from the rule.
+/// No seat has seen more, and home has seen just so much.
 pub fn look<E: JournalEntry>(board: &Board<E>, seat: &mut Seat<E, View<E>>) -> u64
     requires board { (seat.old.table_id ≡ board.now.table_id) × (board.now.table_id.words ≡ 2) }
     ensures board { (seat.new.table_id ≡ seat.old.table_id) × (seat.new.me ≡ seat.old.me) }
+    ensures length { length seat.old.me.0.seen ≤ result }
     ensures home { seat.old.me.0.role ≡ Home → (result ≡ length seat.old.me.0.seen) × IsPrefix seat.old.me.0.old seat.old.me.0.seen }
     ensures mine { length seat.old.me.0.seen + length seat.old.me.0.seen ≤ seat.old.me.0.known → IsPrefix (own E.marks seat.old.me.0.role seat.old.me.0.seen) seat.old.me.0.mine }
 {
