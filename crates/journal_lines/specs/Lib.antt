@@ -1,0 +1,9 @@
+pub mod Spelled
+pub mod Outcomes
+pub mod Replies
+pub mod Messages
+pub mod Marks
+pub mod EntryCalls
+pub mod Entries
+pub mod Lines
+pub mod calls
