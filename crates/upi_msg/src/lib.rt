@@ -20,6 +20,3 @@ pub use reader::{Reader, read, reads_back};
 pub use reply::reply_text;
 pub use sent::sent_text;
 pub use write::text;
-
-#[cfg(test)]
-mod tests;

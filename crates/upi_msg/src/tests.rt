@@ -1,7 +1,0 @@
-//! Tests.
-use super::*;
-
-mod faults;
-mod forms;
-mod sending;
-mod writing;
