@@ -120,3 +120,6 @@ pub fn answer(directory: &Directory, message: &Sent) -> Option<Sent>
         Body::Confirmed { txn: _txn } => None,
     }
 }
+
+#[cfg(test)]
+mod tests;

@@ -7,3 +7,4 @@ pub mod Says
 pub mod Verdicts
 pub mod Readings
 pub mod Insertions
+pub mod Holdings

@@ -7,6 +7,7 @@ mod due_list;
 mod dues;
 mod events;
 mod found;
+mod held;
 pub mod kept;
 mod places;
 mod postings;
@@ -20,5 +21,6 @@ mod sending;
 mod switch;
 mod verdict;
 
+pub use held::Totals;
 pub use switch::{Replay, Step};
-pub use verdict::{replay, reply_of, verdict_is_exact};
+pub use verdict::{replay, reply_of, totals, verdict_is_exact};

@@ -1,11 +1,14 @@
-//! Whether an entry is right, whether a history is legal, and what is right behind one.
+//! Whether an entry is right, whether a history is legal, what is right behind one, and what it
+//! comes to.
 ghost use Rattle.std.specs.Prelude.{◌≡◌, IfOk, MatchOption, is_some};
 ghost use Rattle.upi_model.specs.Legal;
 ghost use Rattle.upi_model.specs.History;
 ghost use Rattle.upi_model.specs.Replies.{reply_to};
 ghost use Rattle.upi_model.specs.Sending.{sent_by};
 ghost use Rattle.upi_model.specs.Verdicts;
+ghost use Rattle.upi_replay.specs.Comes;
 
+use crate::held::Totals;
 use crate::same::{same_messages, same_reply};
 use crate::switch::Replay;
 use std::alloc::Global;
@@ -134,3 +137,18 @@ pub fn replay(alloc: Global, setup: &Setup, history: &[Entry]) -> Result<Verdict
 pub fn verdict_is_exact()
     ensures { Verdicts.VerdictIsExact }
 {}
+
+/// What a history comes to: its transactions, what the accounts hold, and the money in flight. It
+/// fails only for want of memory.
+pub fn totals(alloc: Global, setup: &Setup, history: &[Entry]) -> Result<Totals, NoMemory>
+    ensures { IfOk result (λ t. Comes.IsTotals setup.now.lines (History.past history.now) t) }
+{
+    let switch = replayed(alloc, setup, history)?;
+    let rows = switch.rows()?;
+    let balances = switch.balances()?;
+    Ok(Totals {
+        rows,
+        balances,
+        flight: switch.flight(),
+    })
+}
