@@ -6,6 +6,8 @@ mod balances;
 pub mod fault;
 mod setup;
 pub mod switch;
+#[cfg(test)]
+mod tests;
 
 pub use fault::{At, CoreFault, SetupFault};
 pub use switch::Core;
