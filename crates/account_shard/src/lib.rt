@@ -13,3 +13,6 @@ mod step;
 
 pub use shard::AccountShard;
 pub use step::Step;
+
+#[cfg(test)]
+mod tests;

@@ -10,3 +10,6 @@ mod view;
 
 pub use log::Log;
 pub use view::{CallView, EntryView};
+
+#[cfg(test)]
+mod tests;
