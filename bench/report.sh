@@ -4,24 +4,31 @@
 # An output is what `upi_switch script` has written; without one, those of examples/ are taken. Each
 # line of a report must have six fields. What is paid must be what is received, the nets must add up to
 # nothing, the reconciliation items to the money in flight, and what the accounts hold, with the money
-# in flight, to what they opened with. Skipped where python3 isn't there.
+# in flight, to what they opened with. Without an output it also asks that each example's report is one
+# that the tests of recon_report read back. Skipped where python3 isn't there.
 set -eu
 root=$(CDPATH='' cd -- "$(dirname -- "$0")/.." && pwd)
 if ! command -v python3 >/dev/null; then
     echo "report.sh: skipped, since python3 isn't there" >&2
     exit 0
 fi
-[ $# -gt 0 ] || set -- "$root"/examples/*.out
-exec python3 - "$@" <<'END'
+tested=
+if [ $# = 0 ]; then
+    tested=$root/crates/recon_report/src/tests/examples.rt
+    set -- "$root"/examples/*.out
+fi
+exec python3 - "$tested" "$@" <<'END'
 import csv
 import sys
 from decimal import Decimal
 
 
-def wrong_sum(name):
+def wrong_sum(name, tested):
     with open(name, newline="", encoding="ascii") as output:
         lines = output.read().split("\n")
     begins = lines.index("REPORT")
+    if tested and "\n".join(lines[begins + 1 :]) not in tested:
+        return "no test reads this report back"
     accounts = [line.split(" ") for line in lines[:begins] if line.startswith("ACCOUNT ")]
     opened = sum((Decimal(words[2]) for words in accounts), Decimal(0))
     rows = list(csv.DictReader(lines[begins + 1 : -1], strict=True, restkey="more"))
@@ -51,9 +58,13 @@ def wrong_sum(name):
     return None
 
 
+tested = ""
+if sys.argv[1]:
+    with open(sys.argv[1], encoding="utf-8") as source:
+        tested = source.read()
 wrong = 0
-for name in sys.argv[1:]:
-    why = wrong_sum(name)
+for name in sys.argv[2:]:
+    why = wrong_sum(name, tested)
     print(f"{name}: {why or 'adds up'}")
     wrong += why is not None
 sys.exit(1 if wrong else 0)

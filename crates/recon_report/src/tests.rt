@@ -6,6 +6,8 @@ use upi_base::{
     AcNum, AccountRef, BankCode, Code, NoMemory, Outcome, Paise, SetupLine, TxnId, TxnRow,
 };
 
+mod examples;
+
 fn bank(code: &[u8]) -> Result<BankCode, Fail> {
     Ok(BankCode::read(code).ok_or(NoMemory)?)
 }
