@@ -1,25 +1,23 @@
 -- Each step keeps the rule of the words.
-use Rattle.std.proofs.Common.{◌≡◌, ◌≢◌, ◌⊎◌, ℕ, zero, suc, ◌+◌, ◌-◌, ◌*◌, ◌%◌, ◌^◌, ◌<◌, ◌≤◌, List, [], ◌∷◌, ◌++◌, length, map, set, refl, ap, sym, ◌∙◌, subst, ⊎_elim, arith}
+use Rattle.std.proofs.Common.{◌≡◌, ◌≢◌, ℕ, suc, ◌+◌, ◌-◌, ◌*◌, ◌%◌, ◌^◌, ◌<◌, ◌≤◌, List, [], ◌∷◌, ◌++◌, length, set, refl, ap, sym, ◌∙◌, subst, ⊎_elim, arith}
 use Rattle.std.specs.Prelude.{slice_index}
-use mathlib.Core.Option.{some, some-injective, some-ne-none, none}
+use mathlib.Core.Option.{some, none}
 use mathlib.Core.Logic.{dite}
 use native.Mathlib.Decide.{ℕ_discrete}
 use lib.ListN.{get_elem?}
-use Rattle.atomic_table.specs.Table.{State, Me, Step, step, keeps, Allows, Splits, Joins}
+use Rattle.atomic_table.specs.Table.{State, step, keeps, Allows, Splits, Joins}
 use Rattle.atomic_table.proofs.Lists.{at_set, at_snoc}
 use Rattle.bank_positions.specs.declared.rule.Sums.{Sums}
-use Rattle.bank_positions.specs.Sums.{total, more}
-use Rattle.bank_positions.specs.calls.Rule.{sums, both, joined, Adds, Reads, Held}
-use Rattle.bank_positions.proofs.Weights.{total_set, total-snoc, total_one, total_rest}
-use Rattle.bank_positions.proofs.Places.{more_here, more_else, both_at, index_here, index_else, long_set, set_same, seat_same}
+use Rattle.part_sums.specs.Totals.{total}
+use Rattle.bank_positions.specs.Sums.{more}
+use Rattle.bank_positions.specs.calls.Rule.{sums, joined, Adds, Reads, Held}
+use Rattle.part_sums.proofs.Places.{each_set, set_same}
+use Rattle.part_sums.proofs.Weights.{total_set, total-snoc, total_one, total_rest}
+use Rattle.bank_positions.proofs.Places.{more_here, more_else, both_at, index_here, index_else, long_set, word_same}
 
 -- a seat has added less than 2^60 to each word for each of its parts
 abbrev Small : Sums → Type 0
 Small v = (i : ℕ) → slice_index v.added i ≤ v.parts * 1152921504606846975
-
-small_set : (views : List Sums) (id : ℕ) (w : Sums) → Small w → ((j : ℕ) (u : Sums) → get_elem? views j ≡ some u → Small u) → (j : ℕ) (u : Sums) → get_elem? (set views id w) j ≡ some u → Small u
-small_set views id w mine others j u e =
-    ⊎_elim (λ (x : (j ≡ id) × (w ≡ u)). subst Small x.1 mine) (λ (x : (j ≢ id) × (get_elem? views j ≡ some u)). others j u x.1) (at_set views id j w u e)
 
 total_small : (i : ℕ) (views : List Sums) → ((id : ℕ) (v : Sums) → get_elem? views id ≡ some v → slice_index v.added i ≤ v.parts * 1152921504606846975)
     → total (λ (v : Sums). slice_index v.added i) views ≤ total (λ (v : Sums). v.parts) views * 1152921504606846975
@@ -36,7 +34,7 @@ adds n slots id word amount v c inside part room s k _ at bound =
     let mine : Small w = λ j. dite (ℕ_discrete j word)
     (λ here. subst (λ (i : ℕ). slice_index (more v.added word amount) i ≤ v.parts * 1152921504606846975) (sym here) (omega (arith, more_here v.added word amount, part, room)))
     (λ apart. subst (λ (i : ℕ). i ≤ v.parts * 1152921504606846975) (sym (more_else v.added word j amount apart)) (k.small id v at j)) in
-    let small = small_set s.views id w mine k.small in
+    let small = each_set Small s.views id w mine k.small in
     let most = total_small word views (λ j u e. small j u e word) in
     let step_sum = total_set (λ (u : Sums). slice_index u.added word) s.views id v w at in
     let now = more_here v.added word amount in
@@ -65,8 +63,8 @@ adds n slots id word amount v c inside part room s k _ at bound =
 
 pub reads : (n slots id word : ℕ) (v : Sums) (c : List (ℕ × Unit)) → word < n → Allows (Held n) slots id (v, c) word (λ m. m) (Reads (step slots word 0 0 none) (v, c))
 reads n slots id word v c inside s k homes at bound =
-    let words = set_same s.words word in
-    let views = seat_same s.views id v at in (
+    let words = word_same s.words word in
+    let views = set_same s.views id v at in (
       v,
       keeps,
       tt,
@@ -103,7 +101,7 @@ splits n id v some_parts none_yet s k at =
       few = k.few;
       small = λ j u e.
           ⊎_elim
-          (λ was. small_set s.views id l (λ i. omega (arith, nothing i)) k.small j u was)
+          (λ was. each_set Small s.views id l (λ i. omega (arith, nothing i)) k.small j u was)
           (λ (is : r ≡ u). subst Small is (λ i. omega arith))
           (at_snoc vs r u j e);
     }
@@ -124,5 +122,5 @@ joins n id other v w s k at apart there =
       words = λ i less. k.words i less ∙ sym (sum_at (λ (u : Sums). slice_index u.added i) (both_at v.added w.added i) refl);
       parts = sum_at (λ (u : Sums). u.parts) refl refl ∙ k.parts;
       few = k.few;
-      small = small_set vs other none_left (λ i. omega arith) (small_set s.views id b (λ i. omega (arith, both_at v.added w.added i, k.small id v at i, theirs i)) k.small);
+      small = each_set Small vs other none_left (λ i. omega arith) (each_set Small s.views id b (λ i. omega (arith, both_at v.added w.added i, k.small id v at i, theirs i)) k.small);
     }

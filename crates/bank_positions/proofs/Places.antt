@@ -1,11 +1,9 @@
 -- Lists of sums, place by place.
-use Rattle.std.proofs.Common.{◌≡◌, ◌≢◌, ◌⊎◌, ℕ, zero, suc, ◌+◌, ◌*◌, ◌<◌, ◌≤◌, List, [], ◌∷◌, length, set, refl, ap, sym, ◌∙◌, arith}
+use Rattle.std.proofs.Common.{◌≡◌, ◌≢◌, ℕ, zero, suc, ◌+◌, ◌*◌, ◌<◌, List, [], ◌∷◌, length, set, refl, ap, arith}
 use Rattle.std.specs.Prelude.{slice_index}
-use mathlib.Core.Option.{some, some-injective, some-ne-none}
-use lib.ListN.{get_elem?}
 use Rattle.upi_base.specs.declared.code.Leg.{Leg}
 use Rattle.upi_base.specs.declared.code.Leg.TheVariants.{Debit, Credit, Reversal}
-use Rattle.bank_positions.specs.Sums.{total, more, place}
+use Rattle.bank_positions.specs.Sums.{more, place}
 use Rattle.bank_positions.specs.calls.Rule.{both}
 
 pub more_here : (xs : List ℕ) (k n : ℕ) → slice_index (more xs k n) k ≡ slice_index xs k + n
@@ -48,19 +46,13 @@ long_set (x ∷ xs) zero n = refl
 long_set (x ∷ xs) (suc i) n = ap suc (long_set xs i n)
 
 -- to write what is there changes nothing
-pub set_same : (ws : List ℕ) (i : ℕ) → set ws i (slice_index ws i) ≡ ws
-set_same [] i = refl
-set_same (x ∷ xs) zero = refl
-set_same (x ∷ xs) (suc i) = ap (λ l. x ∷ l) (set_same xs i)
+pub word_same : (ws : List ℕ) (i : ℕ) → set ws i (slice_index ws i) ≡ ws
+word_same [] i = refl
+word_same (x ∷ xs) zero = refl
+word_same (x ∷ xs) (suc i) = ap (λ l. x ∷ l) (word_same xs i)
 
 -- a bank's three words are among those of all banks
 pub within : (bank banks : ℕ) (leg : Leg) → bank < banks → place bank leg < banks * 3
 within bank banks Debit less = omega (arith, less)
 within bank banks Reversal less = omega (arith, less)
 within bank banks Credit less = omega (arith, less)
-
-module _ {V : Type 0} where
-  pub seat_same : (views : List V) (id : ℕ) (v : V) → get_elem? views id ≡ some v → set views id v ≡ views
-  seat_same [] id v e = refl
-  seat_same (x ∷ xs) zero v e = ap (λ y. y ∷ xs) (sym (some-injective x v e))
-  seat_same (x ∷ xs) (suc id) v e = ap (λ l. x ∷ l) (seat_same xs id v e)

@@ -1,18 +1,20 @@
 -- Sums of what moved, by bank and leg.
-use Rattle.std.specs.Prelude.{◌≡◌, ℕ, zero, suc, ◌+◌, ◌*◌, List, [], ◌∷◌, slice_index}
+use Rattle.std.specs.Prelude.{ℕ, zero, suc, ◌+◌, ◌*◌, List, [], ◌∷◌, slice_index}
 use Rattle.atomic_table.specs.Seated.{TableId}
 use Rattle.upi_base.specs.declared.code.Leg.{Leg}
 use Rattle.upi_base.specs.declared.code.Leg.TheVariants.{Debit, Credit, Reversal}
+use Rattle.part_sums.specs.Totals.{total}
 use Rattle.bank_positions.specs.declared.position.Position.{Position}
 
--- the name of no table
-abbrev pub no_table : TableId
-no_table = record { words = 0; slots = 0; views_name = 0; atom = 0; block = 0; offset = 0; slot_names = [] }
+-- of which sums we speak: their table of words, how many banks they have, and how many shards
+pub record Layout : Type 0 where
+  pub table : TableId
+  pub banks : ℕ
+  pub shards : ℕ
 
--- f of each, added up
-abbrev pub total : {A : Type 0} → (A → ℕ) → List A → ℕ
-total f [] = 0
-total f (x ∷ xs) = f x + total f xs
+-- the layout of no sums
+abbrev pub no_layout : Layout
+no_layout = record { table = record { words = 0; slots = 0; views_name = 0; atom = 0; block = 0; offset = 0; slot_names = [] }; banks = 0; shards = 0 }
 
 -- where the sum of a leg stands among the three of its bank
 abbrev pub leg_place : Leg → ℕ

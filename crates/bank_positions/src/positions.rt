@@ -1,7 +1,8 @@
 //! The sums, how shares of them are given out, and how they are gathered.
 ghost use Rattle.std.specs.Prelude.{◌≡◌, ◌<◌, ◌≤◌, ◌+◌, ◌*◌, ◌^◌, ℕ, List, [], All, IfOk, length, slice_index, slice_index_or, vec_capacity};
-ghost use Rattle.bank_positions.specs.Sums.{total, more, place, sum_of, gathered};
-ghost use Rattle.bank_positions.specs.calls.Rule.{sums, IsSeat, Knows};
+ghost use Rattle.part_sums.specs.Totals.{total};
+ghost use Rattle.bank_positions.specs.Sums.{more, place, sum_of, gathered};
+ghost use Rattle.bank_positions.specs.calls.Rule.{sums, IsLaid, IsSeat, Knows};
 
 use crate::name::PositionsName;
 use crate::position::Position;
@@ -9,10 +10,11 @@ use crate::rule::{Adding, Cut, Reading, Shape, Sums, Words};
 use crate::share::Share;
 use atomic_table::{Seat, Table};
 use std::alloc::Global;
-use std::marker::{Brand, PhantomData};
+use std::marker::{Brand, Model, PhantomData};
 use upi_base::{Leg, NoMemory, Paise};
 
-/// Sums of 0, which have no name yet.
+/// Sums of 0, which have no name yet. Contracts see their table, and how many banks and shards they
+/// have.
 #[derive(Drop)]
 pub struct PositionsBlank {
     alloc: Global,
@@ -20,11 +22,17 @@ pub struct PositionsBlank {
     seat: Seat<(), Sums>,
     banks: u32,
     shards: u32,
-    ghost of: { seat.table_id ≡ table.shared.table_id },
-    ghost seat_is: { seat.me ≡ (sums shards [], []) },
-    ghost words: { (table.shared.table_id.words ≡ banks * 3) × (table.shared.key.words ≡ banks * 3) },
-    ghost slots: { table.shared.table_id.slots ≡ shards },
-    ghost sized: { (0 < banks) × (0 < shards) },
+}
+
+impl Model for PositionsBlank {
+    ghost use Rattle.bank_positions.specs.Sums.{Layout};
+    ghost use Rattle.bank_positions.specs.calls.Rule.{IsBlank};
+
+    ghost Value = { Layout };
+
+    ghost view = { λ b. record { table = b.table.shared.table_id; banks = b.banks; shards = b.shards } };
+
+    ghost invariant = { λ b. IsBlank b.table.shared.table_id b.table.shared.key.words b.banks b.shards b.seat };
 }
 
 /// One sum in paise for each bank and leg, to which many threads add, each by a share of its own.
@@ -34,10 +42,9 @@ pub struct Positions<N: PositionsName> {
     banks: u32,
     shards: u32,
     name: PhantomData<N>,
-    ghost named: { table.shared.table_id ≡ N.table },
-    ghost words: { (N.table.words ≡ banks * 3) × (table.shared.key.words ≡ banks * 3) },
-    ghost slots: { N.table.slots ≡ shards },
-    ghost sized: { (0 < banks) × (0 < shards) },
+    ghost named: { table.shared.table_id ≡ N.layout.table },
+    ghost counts: { (banks ≡ N.layout.banks) × (shards ≡ N.layout.shards) },
+    ghost laid: { IsLaid N.layout.table table.shared.key.words N.layout.banks N.layout.shards },
 }
 
 /// The word of a bank and leg.
@@ -83,9 +90,8 @@ impl PositionsBlank {
     /// Names the sums, and gives one share for each shard, in which nothing was added. It fails only
     /// for want of memory, and then the blank is gone.
     pub fn open<N: PositionsName>(self) -> Result<(Positions<N>, Vec<Share<N>>), NoMemory>
-        requires { N.table ≡ self.table.shared.table_id }
-        ensures sized { IfOk result (λ r. (r.0.banks ≡ self.banks) × (r.0.shards ≡ self.shards)) }
-        ensures shares { IfOk result (λ r. (length r.1.items ≡ self.shards) × All (λ share. share ≡ []) r.1.items) }
+        requires { self ≡ N.layout }
+        ensures { IfOk result (λ r. (length r.1.items ≡ self.shards) × All (λ share. share ≡ []) r.1.items) }
     {
         let PositionsBlank {
             alloc,
@@ -109,9 +115,9 @@ impl PositionsBlank {
 impl<N: PositionsName> Positions<N> {
     // A share for each part of the seat.
     fn deal(&self, mut seat: Seat<(), Sums>, shares: &mut Vec<Share<N>>)
-        requires seat { (seat.table_id ≡ N.table) × (seat.me ≡ (sums self.now.shards [], [])) }
-        requires room { (shares.old.items ≡ []) × (self.now.shards ≤ vec_capacity shares.old) }
-        ensures { (length shares.new.items ≡ self.now.shards) × All (λ share. share ≡ []) shares.new.items }
+        requires seat { (seat.table_id ≡ N.layout.table) × (seat.me ≡ (sums N.layout.shards [], [])) }
+        requires room { (shares.old.items ≡ []) × (N.layout.shards ≤ vec_capacity shares.old) }
+        ensures { (length shares.new.items ≡ N.layout.shards) × All (λ share. share ≡ []) shares.new.items }
     {
         for made in 1..self.shards {
             let other = self.table.shared.split_seat::<Cut>(&mut seat);
@@ -122,7 +128,7 @@ impl<N: PositionsName> Positions<N> {
 
     /// Adds an amount to what moved at a bank by a leg. It waits for nobody, and takes no memory.
     pub fn add(&self, share: &mut Share<N>, bank: u32, leg: Leg, amount: Paise)
-        requires bank { bank < self.now.banks }
+        requires bank { bank < N.layout.banks }
         requires room { sum_of share.old bank leg + amount < 2 ^ 60 }
         ensures { share.new ≡ more share.old (place bank leg) amount }
     {
@@ -134,9 +140,8 @@ impl<N: PositionsName> Positions<N> {
 
     // The seat takes in what all shares have added.
     fn join_to(&self, seat: Seat<(), Sums>, shares: Vec<Share<N>>) -> Seat<(), Sums>
-        requires seat { IsSeat N.table seat }
-        requires shares { length shares.items + 1 ≡ self.now.shards }
-        ensures seat { (result.table_id ≡ N.table) × (result.me.1 ≡ []) × (result.me.0.parts ≡ self.now.shards) }
+        requires seat { IsSeat N.layout.table seat }
+        ensures seat { (result.table_id ≡ N.layout.table) × (result.me.1 ≡ []) × (result.me.0.parts ≡ length shares.items + 1) }
         ensures added { (i : ℕ) → slice_index result.me.0.added i ≡ slice_index seat.me.0.added i + total (λ s. slice_index s i) shares.items }
     {
         let mut all = seat;
@@ -149,8 +154,8 @@ impl<N: PositionsName> Positions<N> {
 
     // One seat that has added what all shares have.
     fn join_all(&self, mut shares: Vec<Share<N>>) -> Seat<(), Sums>
-        requires { length shares.items ≡ self.now.shards }
-        ensures { Knows N.table self.now.shards shares.items result }
+        requires { length shares.items ≡ N.layout.shards }
+        ensures { Knows N.layout.table N.layout.shards shares.items result }
     {
         let Some(last) = shares.pop() else {
             unreachable!()
@@ -160,20 +165,19 @@ impl<N: PositionsName> Positions<N> {
 
     // A word, read by who has every part.
     fn read(&self, all: &mut Seat<(), Sums>, bank: u32, leg: Leg) -> u64
-        requires bank { bank < self.now.banks }
-        requires all { (all.old.table_id ≡ N.table) × (all.old.me.0.parts ≡ self.now.shards) }
+        requires bank { bank < N.layout.banks }
+        requires all { (all.old.table_id ≡ N.layout.table) × (all.old.me.0.parts ≡ N.layout.shards) }
         ensures sum { result ≡ sum_of all.old.me.0.added bank leg }
         ensures all { (all.new.table_id ≡ all.old.table_id) × (all.new.me ≡ all.old.me) }
     {
-        let word = word_of(bank, leg);
-        self.table.shared.load::<Reading>(all, word)
+        self.table.shared.load::<Reading>(all, word_of(bank, leg))
     }
 
     // What all shares have added for a bank.
     fn position(&self, all: &mut Seat<(), Sums>, bank: u32) -> Position
-        requires bank { bank < self.now.banks }
-        requires all { (all.old.table_id ≡ N.table) × (all.old.me.0.parts ≡ self.now.shards) }
-        ensures sums { (shares : List (List ℕ)) → Knows N.table self.now.shards shares all.old → result ≡ gathered shares bank }
+        requires bank { bank < N.layout.banks }
+        requires all { (all.old.table_id ≡ N.layout.table) × (all.old.me.0.parts ≡ N.layout.shards) }
+        ensures sums { (shares : List (List ℕ)) → Knows N.layout.table N.layout.shards shares all.old → result ≡ gathered shares bank }
         ensures all { (all.new.table_id ≡ all.old.table_id) × (all.new.me ≡ all.old.me) }
     {
         let debits = self.read(all, bank, Leg::Debit);
@@ -188,9 +192,9 @@ impl<N: PositionsName> Positions<N> {
 
     /// What all shares have added, for each bank in turn. It takes no memory, and can't fail.
     pub fn gather(self, shares: Vec<Share<N>>, out: &mut [Position])
-        requires shares { length shares.items ≡ self.shards }
-        requires out { length out.old ≡ self.banks }
-        ensures { (bank : ℕ) (d : Position) → bank < self.banks → slice_index_or out.new bank d ≡ gathered shares.items bank }
+        requires shares { length shares.items ≡ N.layout.shards }
+        requires out { length out.old ≡ N.layout.banks }
+        ensures { (bank : ℕ) (d : Position) → bank < N.layout.banks → slice_index_or out.new bank d ≡ gathered shares.items bank }
     {
         let mut all = self.join_all(shares);
         for bank in 0..self.banks {

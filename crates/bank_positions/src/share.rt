@@ -24,12 +24,12 @@ impl<N: PositionsName> Model for Share<N> {
 
     ghost view = { λ s. s.seat.me.0.added };
 
-    ghost invariant = { λ s. IsSeat N.table s.seat };
+    ghost invariant = { λ s. IsSeat N.layout.table s.seat };
 }
 
 impl<N: PositionsName> Share<N> {
     pub(crate) fn of(seat: Seat<(), Sums>) -> Share<N>
-        requires table { seat.table_id ≡ N.table }
+        requires table { seat.table_id ≡ N.layout.table }
         requires fresh { seat.me ≡ (sums 1 [], []) }
         ensures { result ≡ [] }
     {
@@ -40,7 +40,7 @@ impl<N: PositionsName> Share<N> {
     }
 
     pub(crate) fn into_seat(self) -> Seat<(), Sums>
-        ensures seat { IsSeat N.table result }
+        ensures seat { IsSeat N.layout.table result }
         ensures added { result.me.0.added ≡ self }
     {
         let Share { seat, of: _ } = self;

@@ -24,7 +24,7 @@ fn debit_and_credit<N: PositionsName>(
     credit: Paise,
     out: &mut [Position],
 ) -> Result<(), Fail>
-    requires named { N.table ≡ blank.table.shared.table_id }
+    requires named { blank ≡ N.layout }
     requires sized { (blank.banks ≡ 1) × (blank.shards ≡ 2) × (length out.old ≡ 1) }
 {
     let (positions, mut shares) = blank.open::<N>()?;
@@ -52,7 +52,7 @@ fn one_bank_and_two_shares(rt: HostRuntime) -> Result<(), Fail> {
 
 // Adds to one bank, again and again.
 fn add_often<N: PositionsName>(positions: &Positions<N>, share: &mut Share<N>, amount: Paise)
-    requires bank { 1 < positions.now.banks }
+    requires bank { 1 < N.layout.banks }
     requires fresh { share.old ≡ [] }
 {
     for _done in 0..TIMES {
@@ -67,7 +67,7 @@ fn all_at_once<N: PositionsName + Send + Sync, R: Threads + Sync>(
     amount: Paise,
     out: &mut [Position],
 ) -> Result<(), Fail>
-    requires named { N.table ≡ blank.table.shared.table_id }
+    requires named { blank ≡ N.layout }
     requires sized { (blank.banks ≡ 2) × (blank.shards ≡ 16) × (length out.old ≡ 2) }
 {
     let (positions, mut shares) = blank.open::<N>()?;

@@ -1,6 +1,5 @@
 -- Counts that stay at their greatest number.
-use Rattle.std.proofs.Common.{◌≡◌, ℕ, ◌+◌, List, length, refl, ap, sym, ◌∙◌, ◌<◌, arith}
-use Rattle.std.specs.Prelude.{min}
+use Rattle.std.proofs.Common.{◌≡◌, ℕ, ◌+◌, ap, ◌∙◌, ◌<◌, arith}
 use Rattle.worker_pool.specs.Jobs.{counted}
 
 pub counted_more : (a m n : ℕ) → a ≡ counted m → counted (a + n) ≡ counted (m + n)

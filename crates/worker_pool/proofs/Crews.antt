@@ -8,11 +8,12 @@ use Rattle.worker_pool.specs.declared.hand.Hand.{Hand}
 use Rattle.worker_pool.specs.declared.desk.Desk.{Desk}
 use Rattle.worker_pool.specs.declared.worker.Worker.{Worker}
 use Rattle.crossbeam_queue.specs.Passes.{view, Pass}
-use Rattle.worker_pool.specs.Jobs.{total, SameJobs, counted}
-use Rattle.worker_pool.specs.calls.Hands.{hand, both}
+use Rattle.part_sums.specs.Totals.{total}
+use Rattle.worker_pool.specs.Jobs.{SameJobs}
+use Rattle.worker_pool.specs.calls.Hands.{hand}
 use Rattle.worker_pool.specs.calls.Work.{Stand, stand, unused, TookUp}
 use Rattle.worker_pool.specs.calls.Crew.{seat_of, Gave}
-use Rattle.worker_pool.proofs.Weights.{total-append, total-snoc}
+use Rattle.part_sums.proofs.Weights.{total-append, total-snoc}
 use Rattle.worker_pool.proofs.Running.{none_of}
 
 pub and_both : (a b r : Bool) → r ≡ (a && b) → r ≡ true → (a ≡ true) × (b ≡ true)

@@ -1,4 +1,3 @@
-pub mod Weights
 pub mod Counts
 pub mod Moves
 pub mod Running

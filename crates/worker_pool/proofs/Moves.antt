@@ -1,21 +1,19 @@
 -- Each call keeps the queue's rule.
-use Rattle.std.proofs.Common.{◌≡◌, ◌≢◌, ℕ, zero, suc, ◌+◌, ◌-◌, ◌<◌, List, [], ◌∷◌, ◌++◌, set, refl, ap, sym, ◌∙◌, subst, ⊎_elim, arith}
+use Rattle.std.proofs.Common.{◌≡◌, ◌≢◌, ℕ, zero, suc, ◌+◌, ◌-◌, ◌<◌, [], ◌∷◌, ◌++◌, set, refl, ap, sym, ◌∙◌, subst, ⊎_elim, arith}
 use mathlib.Core.Option.{some, some-injective, some-ne-none}
 use lib.ListN.{get_elem?}
 use Rattle.crossbeam_queue.specs.Fifo.{Pushes, Pops, Forks, Merges, Learns}
-use Rattle.crossbeam_queue.proofs.Lists.{at_set, at_snoc}
+use Rattle.crossbeam_queue.proofs.Lists.{at_snoc}
 use Rattle.worker_pool.specs.declared.hand.Hand.{Hand}
-use Rattle.worker_pool.specs.Jobs.{total, SameJobs}
+use Rattle.part_sums.specs.Totals.{total}
+use Rattle.worker_pool.specs.Jobs.{SameJobs}
 use Rattle.worker_pool.specs.calls.Hands.{hand, both, Balanced}
-use Rattle.worker_pool.proofs.Weights.{total-append, total-snoc, total_set, total_one, total_rest}
+use Rattle.part_sums.proofs.Places.{each_set}
+use Rattle.part_sums.proofs.Weights.{total-append, total-snoc, total_set, total_one, total_rest}
 
 module _ {J : Type 0} where
   abbrev Idle : Hand J → Type 0
   Idle v = v.parts ≡ 0 → (v.put ≡ []) × (v.taken ≡ [])
-
-  idle_set : (views : List (Hand J)) (pass : ℕ) (w : Hand J) → Idle w → ((j : ℕ) (v : Hand J) → get_elem? views j ≡ some v → Idle v) → (j : ℕ) (v : Hand J) → get_elem? (set views pass w) j ≡ some v → Idle v
-  idle_set views pass w mine others j v e =
-      ⊎_elim (λ (x : (j ≡ pass) × (w ≡ v)). subst Idle x.1 mine) (λ (x : (j ≢ pass) × (get_elem? views j ≡ some v)). others j v x.1) (at_set views pass j w v e)
 
   pub begins : Balanced {J = J} [] (hand 1024 [] [] ∷ [])
   begins = record { parts = omega arith; even = λ h. refl; idle = one }
@@ -34,7 +32,7 @@ module _ {J : Type 0} where
               let s = total_set (λ (u : Hand J). total h u.put) views pass v w at in
               let t = total_set (λ (u : Hand J). total h u.taken) views pass v w at in
               omega (arith, s, t, b.even h, total-snoc h v.put x, total-snoc h items x);
-          idle = idle_set views pass w (λ none. absurd (omega arith)) b.idle;
+          idle = each_set Idle views pass w (λ none. absurd (omega arith)) b.idle;
         },
         refl,
       )
@@ -49,7 +47,7 @@ module _ {J : Type 0} where
               let s = total_set (λ (u : Hand J). total h u.put) views pass v w at in
               let t = total_set (λ (u : Hand J). total h u.taken) views pass v w at in
               omega (arith, s, t, b.even h, total-snoc h v.taken x);
-          idle = idle_set views pass w (λ none. absurd (omega arith)) b.idle;
+          idle = each_set Idle views pass w (λ none. absurd (omega arith)) b.idle;
         },
         refl,
       )
@@ -65,7 +63,7 @@ module _ {J : Type 0} where
             let s = total_set (λ (u : Hand J). total h u.put) views pass v l at in
             let t = total_set (λ (u : Hand J). total h u.taken) views pass v l at in
             omega (arith, s, t, b.even h, total-snoc (λ (u : Hand J). total h u.put) vs r, total-snoc (λ (u : Hand J). total h u.taken) vs r);
-        idle = λ j u e. ⊎_elim (λ was. idle_set views pass l (λ none. absurd (omega arith)) b.idle j u was) (λ (is : r ≡ u). subst Idle is (λ none. (refl, refl))) (at_snoc vs r u j e);
+        idle = λ j u e. ⊎_elim (λ was. each_set Idle views pass l (λ none. absurd (omega arith)) b.idle j u was) (λ (is : r ≡ u). subst Idle is (λ none. (refl, refl))) (at_snoc vs r u j e);
       }
 
   pub merges : (pass : ℕ) (v : Hand J) (other : ℕ) (u : Hand J) → 0 < v.parts → Merges Balanced pass v other u (both v u) (hand 0 [] [])
@@ -81,7 +79,7 @@ module _ {J : Type 0} where
             let s' = total_set (λ (y : Hand J). total h y.put) vs other u none there in
             let t' = total_set (λ (y : Hand J). total h y.taken) vs other u none there in
             omega (arith, s, t, s', t', b.even h, total-append h v.put u.put, total-append h v.taken u.taken);
-        idle = idle_set vs other none (λ _. (refl, refl)) (idle_set views pass w (λ no_part. absurd (omega arith)) b.idle);
+        idle = each_set Idle vs other none (λ _. (refl, refl)) (each_set Idle views pass w (λ no_part. absurd (omega arith)) b.idle);
       }
 
   -- the pass with every part knows the whole

@@ -1,14 +1,13 @@
 -- What workers do, one job after another, and all together.
-use Rattle.std.proofs.Common.{◌≡◌, ℕ, ◌+◌, List, [], ◌∷◌, ◌++◌, length, map, set, ◌<◌, refl, ap, sym, ◌∙◌, subst, arith, append_assoc}
+use Rattle.std.proofs.Common.{◌≡◌, ℕ, ◌+◌, List, [], ◌∷◌, ◌++◌, length, set, ◌<◌, refl, ap, sym, ◌∙◌, subst, arith, append_assoc}
 use Rattle.std.specs.Prelude.{slice_index_or}
-use Rattle.std.proofs.lemmas.List.{append-nil}
 use Rattle.worker_pool.specs.declared.pool.Tally.{Tally}
 use Rattle.worker_pool.specs.declared.hand.Hand.{Hand}
-use Rattle.worker_pool.specs.Jobs.{total, SameJobs, jobs_of, added_by, joined, counted, Leads, AllLed, Drained}
-use Rattle.worker_pool.specs.calls.Hands.{hand, both}
+use Rattle.part_sums.specs.Totals.{total}
+use Rattle.worker_pool.specs.Jobs.{SameJobs, jobs_of, added_by, joined, counted, Leads, AllLed, Drained}
 use Rattle.worker_pool.specs.calls.Work.{Stand, unused, IsCount, TookUp, RanOne, Worked}
 use Rattle.worker_pool.specs.calls.Crew.{Gave, TookIn, Joined}
-use Rattle.worker_pool.proofs.Weights.{total-append, total-snoc}
+use Rattle.part_sums.proofs.Weights.{total-append}
 use Rattle.worker_pool.proofs.Counts.{counted_more, counted_both, counted_none, counted_small}
 
 module _ {J : Type 0} where

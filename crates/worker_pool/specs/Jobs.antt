@@ -1,11 +1,7 @@
 -- Jobs that seats run, and what all of them come to.
-use Rattle.std.specs.Prelude.{◌≡◌, ℕ, ◌+◌, List, [], ◌∷◌, ◌++◌, map, length, min, ⊤}
+use Rattle.std.specs.Prelude.{◌≡◌, ℕ, List, [], ◌∷◌, ◌++◌, map, length, min, ⊤}
+use Rattle.part_sums.specs.Totals.{total}
 use Rattle.worker_pool.specs.declared.pool.Tally.{Tally}
-
--- f of each, added up
-abbrev pub total : {A : Type 0} → (A → ℕ) → List A → ℕ
-total f [] = 0
-total f (x ∷ xs) = f x + total f xs
 
 -- the lists have the same jobs, each as often: however jobs are weighed, both weigh the same
 abbrev pub SameJobs : {J : Type 0} → List J → List J → Type 0

@@ -1,9 +1,11 @@
 //! What one worker has beside its seat, and the two halves of a turn: a job is taken up, and run.
 ghost use Rattle.std.specs.Prelude.{◌≡◌, ◌<◌, ℕ, ◌+◌, [], OnOk, IfOk, IfSome, IfNone, length};
 ghost use Rattle.crossbeam_queue.specs.Passes.{view, IsPassOf};
-ghost use Rattle.worker_pool.specs.Jobs.{total, SameJobs};
+ghost use Rattle.part_sums.specs.Totals.{total};
+ghost use Rattle.worker_pool.specs.Jobs.{SameJobs};
 ghost use Rattle.worker_pool.specs.calls.Work.{stand, RanOne, TookUp};
 
+use crate::floor::Floor;
 use crate::hand::{Port, Puts, Queue, Takes};
 use crate::job::Job;
 use crate::pool::Tally;
@@ -77,11 +79,12 @@ pub fn next_job<J: Drop, R: Wait>(rt: &R, queue: &Queue<J>, desk: &mut Desk<J>) 
     Some(job)
 }
 
-/// Runs a job, and puts those that it added. The answer is how many these are.
+/// Runs a job, counts those that it added, and puts them. The answer is how many these are.
 pub fn run_one<R: Threads + Wait + Sync, J: Job + Drop, G: Gate>(
     rt: &R,
     alloc: Global,
     queue: &Queue<J>,
+    floor: &Floor,
     shared: &J::Shared,
     gate: &G,
     seat: &mut J::Seat,
@@ -95,6 +98,7 @@ pub fn run_one<R: Threads + Wait + Sync, J: Job + Drop, G: Gate>(
     let mut next = Vec::new(alloc);
     job.run(rt, shared, seat, gate, &mut next)?;
     let added = next.len() as u64;
+    floor.count(rt, added);
     offer(rt, queue, &mut desk.port, &mut desk.own, next)?;
     desk.tally.put = desk.tally.put.saturating_add(added);
     desk.tally.taken = desk.tally.taken.saturating_add(1);

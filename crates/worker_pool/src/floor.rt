@@ -3,7 +3,7 @@
 
 use std::sync::{Condvar, Mutex, Wait};
 
-// How many jobs were put and not yet run; how often jobs came for others, or the work ended; and
+// How many jobs were counted and not yet run; how often jobs came for others, or the work ended; and
 // whether it is given up.
 #[derive(Drop)]
 struct Work {
@@ -47,13 +47,24 @@ impl Floor {
         self.work.lock(rt).moves
     }
 
-    /// Tells that a job was run and added so many. The answer is the moves so far, or `None` where
-    /// the work is given up.
+    /// Counts so many jobs, which are about to be put.
+    ///
+    /// A job is counted before it is put, and the job that added it is counted until it tells that
+    /// it has run: so while a job is still to come, nobody finds that none is left.
+    pub fn count<R: Wait>(&self, rt: &R, added: u64) {
+        if added > 0 {
+            let mut work = self.work.lock(rt);
+            work.left = work.left.saturating_add(added);
+        }
+    }
+
+    /// Tells that a job was run, and that the jobs that it added, so many, were counted and put. The
+    /// answer is the moves so far, or `None` where the work is given up.
     ///
     /// Who added one job takes up one himself, so nobody is woken for it.
     pub fn ran<R: Wait>(&self, rt: &R, added: u64) -> Option<u64> {
         let mut work = self.work.lock(rt);
-        work.left = work.left.saturating_add(added).saturating_sub(1);
+        work.left = work.left.saturating_sub(1);
         if added > 1 || work.left == 0 {
             work.moves = work.moves.wrapping_add(1);
             self.moved.notify_all();

@@ -29,8 +29,8 @@ pub struct Tally {
 /// its own where one can be made. It may wait.
 ///
 /// At `Ok` each job was run once by one seat, and put equals taken; no clause says by which seat. At
-/// `NoMemory` all workers have ended, and the jobs that are left
-/// are dropped; the seats come back, but nothing more is known of them.
+/// `NoMemory` all workers have ended, and the jobs that are left are dropped; the seats come back, but
+/// nothing more is known of them.
 pub fn drain<R: Threads + Wait + Sync, J: Job + Drop + Send, G: Gate + Sync>(
     rt: &R,
     alloc: Global,
@@ -70,6 +70,15 @@ where
     if !ended {
         return Err(NoMemory);
     }
-    finish(rt, alloc, &queue, shared, gate, &mut seats[0], &mut desk)?;
+    finish(
+        rt,
+        alloc,
+        &queue,
+        &floor,
+        shared,
+        gate,
+        &mut seats[0],
+        &mut desk,
+    )?;
     Ok(desk.tally)
 }

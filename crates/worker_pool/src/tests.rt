@@ -81,25 +81,52 @@ impl Job for Endless {
     }
 }
 
-// Which of two jobs have begun.
+// What jobs tell each other: that one has passed, and which of two have begun.
 #[derive(Drop)]
-struct Begun {
+struct Signs {
+    passed: AtomicU64,
     one: AtomicU64,
     other: AtomicU64,
 }
 
-// One of two jobs, each of which waits for the other.
-#[derive(Drop)]
-struct Meeting {
-    is_one: bool,
+impl Signs {
+    // No sign was given.
+    fn none() -> Signs {
+        Signs {
+            passed: AtomicU64::new(0),
+            one: AtomicU64::new(0),
+            other: AtomicU64::new(0),
+        }
+    }
 }
 
-impl Job for Meeting {
+// Waits for a sign, so many turns at most. The answer is whether it was given.
+fn await_sign(sign: &AtomicU64) -> bool {
+    for _ in 0..10_000_000 {
+        if sign.load(Ordering::SeqCst) == 1 {
+            return true;
+        }
+        thread::yield_now();
+    }
+    false
+}
+
+// A job that gives signs, or waits for them.
+#[derive(Drop)]
+enum Scene {
+    // Waits until a job has passed, and adds many that pass, and two that meet.
+    Opens,
+    Passes,
+    // One of two jobs, each of which waits for the other to have begun.
+    Meets { is_one: bool },
+}
+
+impl Job for Scene {
     ghost use Rattle.std.specs.Prelude.{⊤};
 
-    type Shared = Begun;
+    type Shared = Signs;
 
-    // Whether it met the other.
+    // Whether a job that met the other has run here.
     type Seat = bool;
 
     ghost does = { λ before job added after. ⊤ };
@@ -107,23 +134,30 @@ impl Job for Meeting {
     fn run<R: Threads + Wait + Sync, G: Gate>(
         self,
         _rt: &R,
-        shared: &Begun,
+        signs: &Signs,
         seat: &mut bool,
         _gate: &G,
-        _next: &mut Vec<Meeting>,
+        next: &mut Vec<Scene>,
     ) -> Result<(), NoMemory> {
-        let (mine, theirs) = if self.is_one {
-            (&shared.one, &shared.other)
-        } else {
-            (&shared.other, &shared.one)
-        };
-        mine.store(1, Ordering::SeqCst);
-        for _ in 0..10_000_000 {
-            if theirs.load(Ordering::SeqCst) == 1 {
-                *seat = true;
-                return Ok(());
+        match self {
+            Scene::Opens => {
+                await_sign(&signs.passed);
+                for _ in 0..600 {
+                    next.push(Scene::Passes)?;
+                }
+                next.push(Scene::Meets { is_one: true })?;
+                next.push(Scene::Meets { is_one: false })?;
             }
-            thread::yield_now();
+            Scene::Passes => signs.passed.store(1, Ordering::SeqCst),
+            Scene::Meets { is_one } => {
+                let (mine, theirs) = if is_one {
+                    (&signs.one, &signs.other)
+                } else {
+                    (&signs.other, &signs.one)
+                };
+                mine.store(1, Ordering::SeqCst);
+                *seat = await_sign(theirs);
+            }
         }
         Ok(())
     }
@@ -213,16 +247,42 @@ fn a_job_without_memory_ends_the_drain(rt: HostRuntime) -> Result<(), Fail> {
 #[test]
 fn two_workers_run_side_by_side(rt: HostRuntime) -> Result<(), Fail> {
     let alloc = rt.alloc();
-    let begun = Begun {
-        one: AtomicU64::new(0),
-        other: AtomicU64::new(0),
-    };
     let mut seats = vec![in alloc; false, false]?;
-    let first = vec![in alloc; Meeting { is_one: true }, Meeting { is_one: false }]?;
-    let tally = drain(&rt, alloc, &begun, &mut seats, first, &OpenGate);
+    let first = vec![in alloc;
+        Scene::Meets { is_one: true },
+        Scene::Meets { is_one: false },
+    ]?;
+    let tally = drain(&rt, alloc, &Signs::none(), &mut seats, first, &OpenGate);
     assert_eq!(rt; tally, Ok(Tally { put: 2, taken: 2 }));
     for met in &seats {
         assert!(rt; *met);
+    }
+    Ok(())
+}
+
+// One worker runs as many jobs while the other adds further ones. The answer is whether the last two
+// of these met.
+fn both_stay<R: Threads + Wait + Sync>(
+    rt: &R,
+    alloc: Global,
+    passing: u32,
+) -> Result<bool, NoMemory> {
+    let mut seats = vec![in alloc; false, false]?;
+    let mut first = vec![in alloc; Scene::Opens]?;
+    for _ in 0..passing {
+        first.push(Scene::Passes)?;
+    }
+    drain(rt, alloc, &Signs::none(), &mut seats, first, &OpenGate)?;
+    let [one, other] = seats.as_slice() else {
+        return Ok(false);
+    };
+    Ok(*one && *other)
+}
+
+#[test]
+fn workers_stay_while_a_job_adds_others(rt: HostRuntime) -> Result<(), Fail> {
+    for passing in [30, 100, 300, 30, 100, 300] {
+        assert!(rt; both_stay(&rt, rt.alloc(), passing)?);
     }
     Ok(())
 }

@@ -55,7 +55,17 @@ fn work<R: Threads + Wait + Sync, J: Job + Drop, G: Gate>(
             }
         };
         let seat = &mut worker.seat;
-        let Ok(added) = run_one(rt, alloc, queue, shared, gate, seat, &mut worker.desk, job) else {
+        let Ok(added) = run_one(
+            rt,
+            alloc,
+            queue,
+            floor,
+            shared,
+            gate,
+            seat,
+            &mut worker.desk,
+            job,
+        ) else {
             floor.stop(rt);
             return;
         };
@@ -102,6 +112,7 @@ pub fn finish<R: Threads + Wait + Sync, J: Job + Drop, G: Gate>(
     rt: &R,
     alloc: Global,
     queue: &Queue<J>,
+    floor: &Floor,
     shared: &J::Shared,
     gate: &G,
     seat: &mut J::Seat,
@@ -116,7 +127,7 @@ pub fn finish<R: Threads + Wait + Sync, J: Job + Drop, G: Gate>(
         let Some(job) = next_job(rt, queue, desk) else {
             return Ok(());
         };
-        run_one(rt, alloc, queue, shared, gate, seat, desk, job)?;
+        run_one(rt, alloc, queue, floor, shared, gate, seat, desk, job)?;
     }
     unreachable!()
 }

@@ -6,8 +6,10 @@ use Rattle.atomic_table.specs.Table.{State, Me, Step}
 use Rattle.atomic_table.specs.Seated.{TableId}
 use Rattle.atomic_table.specs.declared.shared.Seat.{Seat}
 use Rattle.bank_positions.specs.declared.rule.Sums.{Sums}
-use Rattle.bank_positions.specs.Sums.{total, more}
+use Rattle.part_sums.specs.Totals.{total}
+use Rattle.bank_positions.specs.Sums.{more}
 
+-- so many parts, with which this was added to each word
 abbrev pub sums : ℕ → List ℕ → Sums
 sums parts added = record { parts = parts; added = added }
 
@@ -17,6 +19,7 @@ both [] ys = ys
 both (x ∷ xs) [] = x ∷ xs
 both (x ∷ xs) (y ∷ ys) = (x + y) ∷ both xs ys
 
+-- what two seats have together
 abbrev pub joined : Sums → Sums → Sums
 joined v w = sums (v.parts + w.parts) (both v.added w.added)
 
@@ -35,6 +38,19 @@ pub record Held (n : ℕ) (s : State Unit Sums) : Type 0 where
   pub parts : total (λ v. v.parts) s.views ≡ length s.homes
   pub few : length s.homes ≤ 16
   pub small : (id : ℕ) (v : Sums) → get_elem? s.views id ≡ some v → (i : ℕ) → slice_index v.added i ≤ v.parts * 1152921504606846975
+
+-- a table of three words for each bank, which its key also counts, and one slot for each shard
+pub record IsLaid (name : TableId) (words banks shards : ℕ) : Type 0 where
+  pub words_are : (name.words ≡ banks * 3) × (words ≡ banks * 3)
+  pub slots_are : name.slots ≡ shards
+  pub some_banks : 0 < banks
+  pub some_shards : 0 < shards
+
+-- sums without a name: a seat that has every part of its table, and has added nothing
+pub record IsBlank (name : TableId) (words banks shards : ℕ) (seat : Seat Unit Sums) : Type 0 where
+  pub laid : IsLaid name words banks shards
+  pub table : seat.table_id ≡ name
+  pub whole : seat.me ≡ (sums shards [], [])
 
 -- a seat of the table that has one part and holds no slot
 pub record IsSeat (name : TableId) (seat : Seat Unit Sums) : Type 0 where

@@ -5,8 +5,9 @@ use Rattle.crossbeam_queue.specs.declared.array_queue.Slotted.{Slotted}
 use Rattle.crossbeam_queue.specs.Passes.{view, IsPassOf}
 use Rattle.worker_pool.specs.declared.hand.Hand.{Hand}
 use Rattle.worker_pool.specs.declared.worker.Worker.{Worker}
-use Rattle.worker_pool.specs.Jobs.{total, jobs_of, added_by, joined, AllLed, counted}
-use Rattle.worker_pool.specs.calls.Hands.{hand, both}
+use Rattle.part_sums.specs.Totals.{total}
+use Rattle.worker_pool.specs.Jobs.{jobs_of, added_by, joined, AllLed, counted}
+use Rattle.worker_pool.specs.calls.Hands.{both}
 use Rattle.worker_pool.specs.calls.Work.{Stand, stand, unused, Worked}
 
 module _ {J S : Type 0} where

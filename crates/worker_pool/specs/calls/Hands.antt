@@ -3,7 +3,7 @@ use Rattle.std.specs.Prelude.{◌≡◌, ℕ, ◌+◌, List, [], ◌++◌}
 use mathlib.Core.Option.{some}
 use lib.ListN.{get_elem?}
 use Rattle.worker_pool.specs.declared.hand.Hand.{Hand}
-use Rattle.worker_pool.specs.Jobs.{total}
+use Rattle.part_sums.specs.Totals.{total}
 
 module _ {J : Type 0} where
   abbrev pub hand : ℕ → List J → List J → Hand J

@@ -4,7 +4,8 @@ use Rattle.crossbeam_queue.specs.Passes.{view}
 use Rattle.worker_pool.specs.declared.desk.Desk.{Desk}
 use Rattle.worker_pool.specs.declared.pool.Tally.{Tally}
 use Rattle.worker_pool.specs.declared.hand.Hand.{Hand}
-use Rattle.worker_pool.specs.Jobs.{total, jobs_of, added_by, Leads, counted}
+use Rattle.part_sums.specs.Totals.{total}
+use Rattle.worker_pool.specs.Jobs.{jobs_of, added_by, Leads, counted}
 use Rattle.worker_pool.specs.calls.Hands.{hand}
 
 -- what a desk's pass has put and taken, the jobs that are kept there, and its counts

@@ -1,4 +1,4 @@
-use Rattle.std.proofs.Common.{rules, arith, ◌≡◌, [], ◌∷◌, ◌++◌, length, map, ap, refl, sym, ◌∙◌, false}
+use Rattle.std.proofs.Common.{arith, ◌≡◌, [], ◌∷◌, ◌++◌, length, map, ap, refl, ◌∙◌, false}
 use Rattle.std.proofs.lemmas.List.Elements.{All-push, All-same}
 use Rattle.crossbeam_queue.specs.Passes.{view}
 use Rattle.worker_pool.specs.declared.worker.Worker.{Worker}

@@ -1,6 +1,6 @@
-use Rattle.std.proofs.Common.{◌≡◌, ◌≤◌, ◌+◌, ◌<◌, ◌++◌, length, map}
+use Rattle.std.proofs.Common.{◌≡◌, ◌≤◌, ◌+◌, ◌++◌, length, map}
 use Rattle.std.specs.Prelude.{All, vec_len, vec_capacity}
-use Rattle.crossbeam_queue.specs.Passes.{view, IsPassOf}
+use Rattle.crossbeam_queue.specs.Passes.{IsPassOf}
 use Rattle.worker_pool.specs.calls.Work.{stand}
 use Rattle.worker_pool.specs.calls.Crew.{seat_of, IsFresh, Gave}
 use Rattle.worker_pool.proofs.crew.station.Given as goal

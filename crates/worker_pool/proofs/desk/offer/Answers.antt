@@ -1,7 +1,7 @@
 use Rattle.std.proofs.Common.{arith, rules, ◌≡◌, [], ◌∷◌, ◌++◌, ap, ◌∙◌}
 use Rattle.crossbeam_queue.specs.Passes.{view}
-use Rattle.worker_pool.specs.Jobs.{total}
-use Rattle.worker_pool.proofs.Weights.{total-snoc}
+use Rattle.part_sums.specs.Totals.{total}
+use Rattle.part_sums.proofs.Weights.{total-snoc}
 use Rattle.worker_pool.proofs.Moves.{puts}
 use Rattle.worker_pool.proofs.desk.offer.Goals as goal
 

@@ -1,6 +1,6 @@
 use Rattle.std.proofs.Common.{◌≡◌, ℕ, ◌+◌}
 use Rattle.crossbeam_queue.specs.Passes.{view, IsPassOf}
-use Rattle.worker_pool.specs.Jobs.{total}
+use Rattle.part_sums.specs.Totals.{total}
 use Rattle.worker_pool.proofs.desk.offer.Given as goal
 
 abbrev pub invariant-loop-job : goal.invariant-loop-job

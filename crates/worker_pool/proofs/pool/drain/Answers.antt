@@ -1,11 +1,12 @@
-use Rattle.std.proofs.Common.{rules, arith, ◌≡◌, ℕ, ◌+◌, List, [], ◌++◌, length, map, set, ap, refl, sym, ◌∙◌, subst, true}
+use Rattle.std.proofs.Common.{rules, arith, ◌≡◌, [], length, map, set, ap, ◌∙◌, subst, true}
 use Rattle.std.proofs.lemmas.List.Elements.{All-same}
 use Rattle.crossbeam_queue.specs.Passes.{view}
 use Rattle.worker_pool.specs.declared.hand.Hand.{Hand}
-use Rattle.worker_pool.specs.Jobs.{total, Drained}
+use Rattle.part_sums.specs.Totals.{total}
+use Rattle.worker_pool.specs.Jobs.{Drained}
 use Rattle.worker_pool.specs.calls.Hands.{hand}
 use Rattle.worker_pool.specs.calls.Work.{Stand, stand}
-use Rattle.worker_pool.specs.calls.Crew.{seat_of, IsBack, IsHome, Joined}
+use Rattle.worker_pool.specs.calls.Crew.{seat_of, IsBack, IsHome}
 use Rattle.worker_pool.proofs.Counts.{counted_again}
 use Rattle.worker_pool.proofs.Running.{drained, even_tally}
 use Rattle.worker_pool.proofs.Crews.{written_whole, zip_back, long_seats}

@@ -1,4 +1,4 @@
-use Rattle.std.proofs.Common.{◌∙◌, ap, refl}
+use Rattle.std.proofs.Common.{◌∙◌, ap}
 use Rattle.worker_pool.specs.calls.Work.{Stand, stand, unused}
 use Rattle.worker_pool.proofs.Running.{begun, worked_on}
 use Rattle.worker_pool.proofs.worker.work.Goals as goal

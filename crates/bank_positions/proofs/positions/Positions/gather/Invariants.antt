@@ -7,5 +7,5 @@ use Rattle.bank_positions.proofs.positions.Positions.gather.Given as goal
 
 abbrev pub invariant-loop-bank : goal.invariant-loop-bank
 invariant-loop-bank g l =
-    Knows g.N.PositionsName.table l.fn.self.shards l.fn.shares.items l.all × (length l.out ≡ l.fn.self.banks)
+    Knows g.N.PositionsName.layout.table g.N.PositionsName.layout.shards l.fn.shares.items l.all × (length l.out ≡ g.N.PositionsName.layout.banks)
     × ((k : ℕ) (d : Position) → k < l.bank → slice_index_or l.out k d ≡ gathered l.fn.shares.items k)

@@ -1,7 +1,7 @@
-use Rattle.std.proofs.Common.{rules, arith, ap, ◌≡◌, ◌∙◌, ◌++◌, ◌+◌, [], ◌∷◌, List, ℕ}
+use Rattle.std.proofs.Common.{rules, arith, ap, ◌≡◌, ◌++◌, [], ◌∷◌, List, ℕ, length, length-append}
 use Rattle.std.specs.Prelude.{slice_index}
-use Rattle.bank_positions.specs.Sums.{total}
-use Rattle.bank_positions.proofs.Weights.{total-snoc}
+use Rattle.part_sums.specs.Totals.{total}
+use Rattle.part_sums.proofs.Weights.{total-snoc}
 use Rattle.bank_positions.proofs.positions.Positions.join_all.Goals as goal
 
 pub returns : goal.returns
@@ -10,7 +10,7 @@ returns g c =
     let e = c.join_to.ensures in record {
       table = e.seat.0;
       slots = e.seat.1;
-      parts = e.seat.2;
+      parts = omega (arith, e.seat.2, c.requires, ap length items, length-append c.pop.new.self.items (c.in-Some.last ∷ []));
       added = λ i.
           omega (
             arith,

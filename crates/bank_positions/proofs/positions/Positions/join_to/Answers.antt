@@ -1,7 +1,6 @@
-use Rattle.std.proofs.Common.{arith, ap, sym, ◌∙◌, ℕ, List, [], length}
+use Rattle.std.proofs.Common.{arith, ap, sym, ◌∙◌, ℕ, List, length}
 use Rattle.std.specs.Prelude.{slice_index}
-use Rattle.bank_positions.specs.declared.rule.Sums.{Sums}
-use Rattle.bank_positions.specs.Sums.{total}
+use Rattle.part_sums.specs.Totals.{total}
 use Rattle.bank_positions.proofs.Places.{both_at}
 use Rattle.bank_positions.proofs.Moves.{joins}
 use Rattle.bank_positions.proofs.positions.Positions.join_to.Goals as goal
@@ -12,7 +11,7 @@ loop-share-init g c =
     let all = c.into_iter-share-iterator.ensures.into_iter_gives.0 in (
       seat.table,
       seat.slots,
-      omega (arith, seat.part, c.requires.shares, ap length all),
+      omega (arith, seat.part, ap length all),
       λ i. omega (arith, ap (λ (l : List (List ℕ)). total (λ s. slice_index s i) l) all),
     )
 
@@ -21,7 +20,7 @@ join_seat-requires g c =
     let s = c.args.self.now in
     let i = c.loop-share.invariant in
     let seat = c.into_seat-other.ensures.seat in
-    (i.0 ∙ sym s.named, seat.table ∙ sym s.named, seat.slots, omega (arith, ap (λ t. t.words) s.named, s.words.0, s.sized.0), joins _ _ _ _ _)
+    (i.0 ∙ sym s.named, seat.table ∙ sym s.named, seat.slots, omega (arith, ap (λ t. t.words) s.named, s.laid.words_are.0, s.laid.some_banks), joins _ _ _ _ _)
 
 pub loop-share-preserved : goal.loop-share-preserved
 loop-share-preserved g c =
