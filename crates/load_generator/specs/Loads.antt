@@ -13,6 +13,11 @@ state_at seed (suc n) = state_after (state_at seed n)
 abbrev pub next_send : ℕ → ℕ → Text
 next_send seed n = send_line (n + 1) (payment_from (state_at seed n))
 
+-- the SEND lines of a load that were made: its seed, and how many
+pub record Made : Type 0 where
+  pub seed : ℕ
+  pub count : ℕ
+
 -- a line with its end
 abbrev pub ended : Text → Text
 ended line = line ++ 10 ∷ []

@@ -3,10 +3,13 @@
 
 mod draws;
 mod payment;
-mod text;
-mod users;
+pub mod sends;
+pub mod text;
+pub mod users;
 
-pub use text::{MAX_COUNT, MAX_SEED, generate};
+pub use sends::Sends;
+pub use text::{MAX_COUNT, MAX_SEED, SETUP_LINES, generate};
+pub use users::push_setup_line;
 
 #[cfg(test)]
 mod tests;

@@ -4,8 +4,7 @@ ghost use Rattle.load_generator.specs.Loads;
 ghost use Rattle.load_generator.specs.Users.{setup_len};
 ghost use Rattle.load_generator.specs.declared.text.TheConstants.{MAX_COUNT, MAX_SEED};
 
-use crate::draws::Draws;
-use crate::payment::{Payment, push_send};
+use crate::sends::Sends;
 use crate::users::{push, push_setup_line};
 use std::alloc::Global;
 use upi_base::NoMemory;
@@ -17,7 +16,7 @@ pub const MAX_COUNT: u32 = 50_000;
 pub const MAX_SEED: u32 = 2_147_483_647;
 
 /// How many lines the setup has.
-const SETUP_LINES: u32 = 90;
+pub const SETUP_LINES: u32 = 90;
 
 /// Appends the setup.
 fn push_setup(out: &mut Vec<u8>) -> Result<(), NoMemory>
@@ -36,10 +35,9 @@ fn push_sends(count: u32, seed: u32, out: &mut Vec<u8>) -> Result<(), NoMemory>
     requires seed { seed ≤ MAX_SEED }
     ensures { OnOk result (out.new.items ≡ out.old.items ++ Loads.sends_text seed count) }
 {
-    let mut draws = Draws::new(seed);
-    'payments: for n in 0..count {
-        let payment = Payment::draw(&mut draws);
-        push_send(n + 1, payment, out)?;
+    let mut sends = Sends::new(seed);
+    'payments: for _n in 0..count {
+        sends.push_next(out)?;
         push(b"\n", out)?;
     }
     Ok(())

@@ -94,9 +94,11 @@ fn push_address_line(i: u32, out: &mut Vec<u8>) -> Result<(), NoMemory>
     push(if i % 10 == 9 { b" NO" } else { b" YES" }, out)
 }
 
-/// Appends a line of the setup, which is counted from 0.
+/// Appends a line of the setup, which is counted from 0, without a line end: START, four banks, four PSPs,
+/// forty accounts, forty addresses, and OPEN. It fails only for want of memory, and a part may then be
+/// appended.
 #[tactic(auto, unfolding(crate::specs::Users::setup_line))]
-pub(crate) fn push_setup_line(k: u32, out: &mut Vec<u8>) -> Result<(), NoMemory>
+pub fn push_setup_line(k: u32, out: &mut Vec<u8>) -> Result<(), NoMemory>
     ensures { OnOk result (out.new.items ≡ out.old.items ++ Users.setup_line k) }
 {
     match k {

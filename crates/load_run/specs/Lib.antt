@@ -1,0 +1,3 @@
+pub mod LoadLines
+pub mod Runs
+pub mod Summaries
