@@ -14,6 +14,7 @@ use Rattle.upi_model.specs.History.{sent_count}
 use Rattle.upi_msg.specs.Tree.{message_text}
 use Rattle.upi_text.specs.Pieces.{spaced, leg_text, fault_text, yes_text, answer_text, outcome_text, reply_text, party_text}
 
+-- what a message says: its word, and its values
 abbrev pub body_text : Body → List ℕ
 body_text (body.ReqAuth q) = codes "REQAUTH" ++ spaced q.txn ++ spaced (paise_text q.amount)
 body_text (body.RespAuth txn amount is_yes) = codes "RESPAUTH" ++ spaced txn ++ spaced (paise_text amount) ++ spaced (yes_text is_yes)
@@ -41,6 +42,7 @@ abbrev pub heard_text : List ℕ → Input → List ℕ
 heard_text psp (input.Good m) = codes "HEAR" ++ spaced psp ++ spaced (message_text m)
 heard_text psp (input.Bad b) = codes "BAD" ++ spaced psp ++ spaced b.path ++ spaced (fault_text b.why)
 
+-- a call: its word, and what it names
 abbrev pub call_text : Call → List ℕ
 call_text (call.Hear psp input) = heard_text psp input
 call_text (call.Deliver n) = codes "DELIVER" ++ spaced (decimal n)
