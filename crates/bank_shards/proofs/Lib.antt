@@ -1,0 +1,9 @@
+pub mod Places
+pub mod Stands
+pub mod Beginnings
+pub mod Histories
+pub mod Answers
+pub mod Calls
+pub mod Closes
+pub mod Flights
+pub mod Gathered
