@@ -78,7 +78,7 @@ impl Engine {
             SetupStep::More => Ok(()),
             SetupStep::Opened => {
                 let text = mem::replace(&mut self.setup, SetupText::new(self.alloc));
-                let player = Player::new(self.alloc, text.into_setup())?;
+                let player = Player::new(self.alloc, text.into_directory())?;
                 self.player = Some(player);
                 Ok(())
             }

@@ -128,9 +128,49 @@ fn a_setup_is_written_in_its_one_form(rt: HostRuntime) -> Result<(), Fail> {
         out.as_slice(),
         b"START 2024-01-01T05:30:00+05:30\nBANK AAAA\nPSP alpha\nACCOUNT AAAA/1 7.50 NODEBIT\nACCOUNT AAAA/2 7.00\nACCOUNT AAAA/3 0.10 NOCREDIT\nACCOUNT AAAA/4 1.00 NODEBIT NOCREDIT\nADDR ann@alpha AAAA/1 YES\nADDR bob@alpha AAAA/1 NO\nADDR eve@alpha AAAA/2 ASK\nOPEN\n".as_slice()
     );
-    assert_eq!(rt; setup.lines().len(), 9);
-    let start = setup.start().ok_or(NoMemory)?;
-    assert_eq!(rt; start.get(), 1_704_067_200);
+    assert!(rt; kept(setup) == Some((9, 1_704_067_200)));
+    Ok(())
+}
+
+// How many lines a setup has that was read to its end, and when it starts.
+fn kept(text: SetupText) -> Option<(usize, u64)> {
+    if !text.is_open() {
+        return None;
+    }
+    let setup = text.into_directory().into_setup();
+    Some((setup.lines.items().len(), setup.start.get()))
+}
+
+// Whether so many accounts are taken, one line for each.
+fn takes_accounts(alloc: Global, setup: &mut SetupText, count: u32) -> Result<bool, Fail> {
+    let mut out = Vec::new(alloc);
+    for number in 0..count {
+        let line = format!(in alloc; "ACCOUNT AAAA/n{number} 1")?;
+        out.clear();
+        if take(setup, line.as_bytes(), &mut out)? != SetupStep::More {
+            return Ok(false);
+        }
+    }
+    Ok(true)
+}
+
+#[test]
+fn so_many_accounts_are_taken(rt: HostRuntime) -> Result<(), Fail> {
+    let alloc = rt.alloc();
+    let (mut setup, mut out) = read_all(alloc, b"START 2024-01-01T00:00:00Z\nBANK AAAA")?;
+    let taken = takes_accounts(alloc, &mut setup, 65_536)?;
+    let more = take(&mut setup, b"ACCOUNT AAAA/more 1", &mut out);
+    let again = take(&mut setup, b"ACCOUNT AAAA/n0 1", &mut out);
+    drop(setup);
+    let limit = EngineFault::Bad {
+        field: 1,
+        why: Why::Limit,
+    };
+    let twice = EngineFault::Bad {
+        field: 2,
+        why: Why::Twice,
+    };
+    assert!(rt; taken && more == Err(limit) && again == Err(twice));
     Ok(())
 }
 
