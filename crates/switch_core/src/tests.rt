@@ -1,11 +1,10 @@
 //! An approval that comes late, with no Late before it.
 use super::*;
 use std::alloc::Global;
-use std::test::Fail;
 use upi_base::{
     AccountRef, Addr, AuthResp, BankCode, Boxed, Call, Code, Head, Input, Kind, Message, Minutes,
     Moment, MsgId, OrgId, Outcome, Paise, PayReq, Policy, PspName, Reply, Setup, SetupLine,
-    SetupLines, TxnId, Ver, has_psp,
+    SetupLines, TxnId, Ver,
 };
 
 const START: u64 = 1_704_067_200;
@@ -41,14 +40,18 @@ fn line(place: usize) -> Option<SetupLine> {
     }
 }
 
-fn switch(alloc: Global) -> Result<Core, Fail> {
+fn lines(alloc: Global) -> Option<SetupLines> {
     let mut lines = SetupLines::new(alloc);
     for place in 0..8 {
-        lines.push(line(place).ok_or("a line")?)?;
+        lines.push(line(place)?).ok()?;
     }
-    let start = Moment::of(START).ok_or("a moment")?;
-    let core = Core::new(alloc, Setup { start, lines }).ok();
-    Ok(core.ok_or("a setup")?)
+    Some(lines)
+}
+
+fn switch(alloc: Global) -> Option<Core> {
+    let start = Moment::of(START)?;
+    let lines = lines(alloc)?;
+    Core::new(alloc, Setup { start, lines }).ok()
 }
 
 fn head() -> Option<Head> {
@@ -98,7 +101,7 @@ fn approval(alloc: Global) -> Option<Message> {
 // The reply to a message that a PSP sends.
 fn hear(core: &mut Core, psp: &[u8], message: Message, now: Moment) -> Option<Reply> {
     let psp = PspName::read(psp)?;
-    if !has_psp(core.lines(), psp.bytes()) {
+    if !core.directory().has_psp(&psp) {
         return None;
     }
     let input = Input::Good(message);
@@ -114,12 +117,18 @@ fn replies(alloc: Global, core: &mut Core) -> Option<[Reply; 3]> {
     Some([opened, approved, late.reply])
 }
 
+// The replies, how the collect ends, and the money in flight then.
+fn ending(alloc: Global) -> Option<(Option<[Reply; 3]>, Option<Outcome>, u128)> {
+    let name = TxnId::read(b"C1")?;
+    let mut core = switch(alloc)?;
+    let replies = replies(alloc, &mut core);
+    Some((replies, core.outcome(&name), core.flight()))
+}
+
 #[test]
-fn an_approval_at_the_due_moment_is_late(rt: HostRuntime) -> Result<(), Fail> {
-    let mut core = switch(rt.alloc())?;
-    let expired = Reply::Ack(Some(Code::Expired));
-    assert!(rt; replies(rt.alloc(), &mut core) == Some([Reply::Ack(None), expired, Reply::Acted]));
-    let outcome = core.outcome(&TxnId::read(b"C1").ok_or("a name")?);
-    assert!(rt; outcome == Some(Outcome::Failure(Code::Expired)) && core.flight() == 0);
-    Ok(())
+fn an_approval_at_the_due_moment_is_late(rt: HostRuntime) {
+    let expired = Code::Expired;
+    let replies = [Reply::Ack(None), Reply::Ack(Some(expired)), Reply::Acted];
+    let outcome = Some(Outcome::Failure(expired));
+    assert!(rt; ending(rt.alloc()) == Some((Some(replies), outcome, 0)));
 }

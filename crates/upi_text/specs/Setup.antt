@@ -1,5 +1,5 @@
 -- The lines of a setup, read.
-use Rattle.std.specs.Prelude.{◌≡◌, ℕ, ◌==◌, nat_le, Bool, true, false, not, ◌&&◌, if◌then◌else◌, List, [], ◌∷◌, ◌++◌, length, codes, Option, Some, None, is_some, Result, Ok, Err}
+use Rattle.std.specs.Prelude.{◌≡◌, ℕ, ◌==◌, nat_le, Bool, true, false, not, ◌&&◌, if◌then◌else◌, List, [], ◌∷◌, ◌++◌, length, codes, Option, Some, None, Result, Ok, Err}
 use Rattle.std.specs.Str.{bytes_eq, is_utf8}
 use Rattle.upi_base.specs.declared.code.Policy.{Policy}
 use Rattle.upi_base.specs.declared.code.Policy.TheVariants as policy
@@ -11,7 +11,7 @@ use Rattle.upi_base.specs.Lists.{when}
 use Rattle.upi_base.specs.Texts.{is_bank_code, is_psp_name, is_addr}
 use Rattle.upi_base.specs.Money.{paise_of}
 use Rattle.upi_base.specs.Time.{moment_of}
-use Rattle.upi_base.specs.Setup.{setup_fault, is_setup}
+use Rattle.upi_base.specs.Setup.{setup_fault}
 use Rattle.upi_base.specs.Accounts.{account_of}
 use Rattle.upi_text.specs.Words.{is_skipped, words, word_at}
 use Rattle.upi_text.specs.Refusals.{◌>>=◌, refusal, not_utf8, no_command, other_fields, valued}
@@ -44,6 +44,7 @@ psp_line ws =
     Ok (line.Psp name))
     else Err other_fields
 
+-- which postings an account doesn't take
 abbrev pub flags : Bool → Bool → Flags
 flags no_debit no_credit = record { no_debit = no_debit; no_credit = no_credit }
 
@@ -73,6 +74,7 @@ account_line ws =
     Ok (line.Account ac opening f.no_debit f.no_credit))
     else Err other_fields
 
+-- `YES`, `NO` or `ASK`
 unfoldable pub policy_of : List ℕ → Option Policy
 policy_of word =
     if bytes_eq word (codes "YES") then Some policy.Yes
@@ -112,6 +114,7 @@ field_of why.NoAccount = 3
 field_of why.Limit = 1
 field_of _ = 0
 
+-- the line, unless it is refused for a reason, which stands at its word
 abbrev pub unless_refused : SetupLine → Option Why → Result SetupRead Refusal
 unless_refused l None = Ok (read.Line l)
 unless_refused l (Some w) = Err (refusal (field_of w) w)
@@ -120,6 +123,7 @@ unless_refused l (Some w) = Err (refusal (field_of w) w)
 abbrev pub accepted : List SetupLine → SetupLine → Result SetupRead Refusal
 accepted lines l = unless_refused l (setup_fault lines l)
 
+-- what the first word of a line behind START names
 unfoldable pub command_of : List ℕ → Option Command
 command_of word =
     if bytes_eq word (codes "BANK") then Some command.Bank
@@ -129,6 +133,7 @@ command_of word =
     else if bytes_eq word (codes "OPEN") then Some command.Open
     else None
 
+-- what a line behind START says, by its first word
 abbrev pub commanded : List SetupLine → List (List ℕ) → Option Command → Result SetupRead Refusal
 commanded lines ws None = Err no_command
 commanded lines ws (Some command.Bank) = bank_line ws >>= accepted lines
@@ -141,6 +146,7 @@ commanded lines ws (Some command.Open) = open_line ws
 abbrev pub later_line : List SetupLine → List (List ℕ) → Result SetupRead Refusal
 later_line lines ws = commanded lines ws (command_of (word_at 0 ws))
 
+-- a line before START, which has to be START itself, or one behind it
 abbrev pub part_line : Option ℕ → List SetupLine → List (List ℕ) → Result SetupRead Refusal
 part_line None lines ws = start_line ws
 part_line (Some start) lines ws = later_line lines ws
@@ -159,11 +165,15 @@ MayFollow lines (read.Start start) = Unit {0}
 MayFollow lines (read.Line l) = setup_fault lines l ≡ None
 MayFollow lines read.Open = Unit {0}
 
--- OPEN is read only behind START
-abbrev pub IsStarted : Option ℕ → SetupRead → Type 0
-IsStarted (Some start) r = Unit {0}
-IsStarted None read.Open = ⊥
-IsStarted None _ = Unit {0}
+-- START stands first, and all others behind it
+abbrev pub IsPlaced : Option ℕ → SetupRead → Type 0
+IsPlaced start read.Skipped = Unit {0}
+IsPlaced None (read.Start s) = Unit {0}
+IsPlaced (Some start) (read.Start s) = ⊥
+IsPlaced None (read.Line l) = ⊥
+IsPlaced (Some start) (read.Line l) = Unit {0}
+IsPlaced None read.Open = ⊥
+IsPlaced (Some start) read.Open = Unit {0}
 
 -- nothing was read
 abbrev pub unread : SetupState
@@ -175,8 +185,3 @@ state_after S read.Skipped = S
 state_after S (read.Start start) = record S { start = Some start }
 state_after S (read.Line l) = record S { lines = S.lines ++ l ∷ [] }
 state_after S read.Open = record S { is_open = true }
-
--- what holds of all that was read: the setup accepts its lines, and OPEN stands behind START
-pub record IsRead (start : Option ℕ) (lines : List SetupLine) (is_open : Bool) : Type 0 where
-  pub accepted : is_setup lines ≡ true
-  pub started : is_open ≡ true → is_some start ≡ true
