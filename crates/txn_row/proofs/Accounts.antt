@@ -1,5 +1,5 @@
 -- Accounts by their names: what an address has, and the rules that read it.
-use Rattle.std.proofs.Common.{◌≡◌, ℕ, Bool, true, false, cond, Option, Some, None, refl, sym, ap, ◌∙◌}
+use Rattle.std.proofs.Common.{◌≡◌, ℕ, true, Option, Some, None, refl, sym, ap}
 use Rattle.std.specs.Prelude.{not, ◌&&◌, ◌||◌, ◌==◌, nat_lt, nat_le, if◌then◌else◌, is_some, is_none}
 use Rattle.std.specs.Option.{option_map, option_and_then}
 use Rattle.std.specs.Str.{bytes_eq}
@@ -10,7 +10,7 @@ use Rattle.upi_base.proofs.Setups.{account_name, accepted_are_sound}
 use Rattle.upi_model.specs.Places.{agrees, one_account, accounts_agree, asking, refusal_at}
 use Rattle.upi_model.specs.Postings.{posted_at}
 use Rattle.upi_model.specs.Sending.{order, order_at}
-use Rattle.txn_row.specs.calls.Parts.{account_ref, agrees_with, one_of, both_known, both_agree, pays_itself, order_for, refusal_by}
+use Rattle.txn_row.specs.calls.Parts.{account_ref, agrees_with, one_of, both_agree, order_for, refusal_by}
 
 -- an accepted setup has the account of each address, by its own name
 pub refs_are : (S : Setup) (addr : Text) → is_setup S ≡ true → option_map (λ (l : Listing). l.ac) (listing_at S addr) ≡ account_ref S addr

@@ -1,29 +1,27 @@
 -- What becomes of a transaction that has its outcome: a Late, and the word of the asked PSP that it was told.
-use Rattle.std.proofs.Common.{◌≡◌, ℕ, ◌+◌, Bool, true, false, List, [], ◌∷◌, ◌++◌, Option, Some, None, refl, sym, ap, subst, ◌∙◌, arith}
+use Rattle.std.proofs.Common.{◌≡◌, ℕ, Bool, true, false, List, ◌++◌, Option, Some, None, refl, sym, ap, subst, ◌∙◌}
 use Rattle.std.specs.Prelude.{is_some, ◌&&◌}
 use Rattle.std.specs.Option.{option_or}
 use Rattle.std.specs.List.{AllByRecursion, list_any}
 use Rattle.std.specs.Str.{bytes_eq}
-use Rattle.upi_words.specs.Prelude.{Event, Leg, Opening, Outcome, Said, Sent, Setup, Text}
+use Rattle.upi_words.specs.Prelude.{Event, Leg, Outcome, Said, Sent, Setup, Text}
 use Rattle.upi_base.specs.Lists.{when}
 use Rattle.upi_base.proofs.Options.{or_none}
 use Rattle.upi_model.specs.Dues.{acknowledges, orders}
 use Rattle.upi_model.specs.Owners.{body_txn}
 use Rattle.upi_model.specs.Places.{asked}
 use Rattle.upi_model.specs.Postings.{Answers}
-use Rattle.upi_model.specs.Replies.{reply_by, reply_late, reply_confirmed, ok}
-use Rattle.upi_model.specs.Sending.{confirm, sent_again, sent_due, sent_at_places, sent_between}
-use Rattle.upi_model.specs.Standing.{Standing, Sendings, outcome_on, cause_on, is_due_on, advance, sending}
-use Rattle.txn_machine.specs.MachineLaws.{concerns}
-use Rattle.txn_machine.specs.Stands.{Transaction, returned_of}
+use Rattle.upi_model.specs.Replies.{reply_late, reply_confirmed}
+use Rattle.upi_model.specs.Sending.{confirm, sent_again, sent_due, sent_between}
+use Rattle.upi_model.specs.Standing.{Standing, outcome_on, cause_on, is_due_on, advance, sending}
+use Rattle.txn_machine.specs.Stands.{returned_of}
 use Rattle.txn_machine.proofs.Others.{machine_laws}
 use Rattle.status_check.specs.declared.{Confirm.Confirm}
 use Rattle.status_check.specs.Confirms.{IsConfirmed, Lates}
-use Rattle.txn_row.specs.declared.turn.{Progress.Progress, Turn.Turn}
-use Rattle.txn_row.specs.Rows.{Course, its_machine, transaction, stands_with, sendings_of, is_answered, last_of, count_of, outcome_in, after, no_bank, IsRow, Says, IsInside, IsTurn, Turns}
-use Rattle.txn_row.specs.calls.Parts.{still, confirmed_with, told_with}
-use Rattle.txn_row.proofs.Stills.{outcome_same, no_places, nothing_sent, ack_none, unheard, still_turns, IsStill}
-use Rattle.txn_row.proofs.Moves.{self_is, there_is, turn_for}
+use Rattle.txn_row.specs.Rows.{Course, its_machine, transaction, stands_with, sendings_of, is_answered, last_of, count_of, outcome_in, after, no_bank, IsRow, IsTurn, Turns}
+use Rattle.txn_row.specs.calls.Parts.{confirmed_with, told_with}
+use Rattle.txn_row.proofs.Stills.{outcome_same, no_places, nothing_sent, ack_none, IsStill}
+use Rattle.txn_row.proofs.Moves.{there_is, turn_for}
 
 -- ---- a row with these confirmations
 

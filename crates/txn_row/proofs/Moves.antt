@@ -1,5 +1,5 @@
 -- What a machine's move makes of a row's transaction.
-use Rattle.std.proofs.Common.{◌≡◌, ℕ, ◌+◌, Bool, true, false, cond, List, [], ◌∷◌, Option, Some, None, refl, sym, ap, subst, ◌∙◌, arith}
+use Rattle.std.proofs.Common.{◌≡◌, ℕ, ◌+◌, Bool, true, false, cond, List, [], Option, Some, None, refl, sym, ap, subst, ◌∙◌, arith}
 use Rattle.std.specs.Prelude.{is_some, ◌||◌, Result, Ok, Err, IfOk}
 use Rattle.std.specs.Option.{option_or}
 use Rattle.std.specs.List.{AllByRecursion, list_any, count_by}
@@ -8,7 +8,7 @@ use Rattle.std.proofs.lemmas.Slice.Eq.{bytes_eq-Decides}
 use Rattle.upi_words.specs.Prelude.{Account, Event, Leg, Outcome, Said, AuthWord, Answer, PayReq, Sent, Setup, Text}
 use Rattle.upi_base.specs.Lists.{when}
 use Rattle.upi_base.specs.Setup.{account_at}
-use Rattle.upi_model.specs.Dues.{orders, confirms}
+use Rattle.upi_model.specs.Dues.{confirms}
 use Rattle.upi_model.specs.Places.{asked, accounts_agree}
 use Rattle.upi_model.specs.Owners.{body_txn}
 use Rattle.upi_model.specs.Postings.{Answers}
@@ -21,7 +21,7 @@ use Rattle.txn_machine.specs.Follows.{Follows, Tells, IsOver, HearsAuth, HearsLe
 use Rattle.status_check.specs.declared.{Confirm.Confirm}
 use Rattle.txn_row.specs.declared.machine.{RowMachine.RowMachine}
 use Rattle.txn_row.specs.declared.turn.{Progress.Progress, Turn.Turn}
-use Rattle.txn_row.specs.Rows.{Course, its_machine, machine_in, transaction, stands_with, sendings_of, is_answered, last_of, count_of, outcome_in, after, no_bank, IsRow, Says, IsInside, IsTurn, Turns}
+use Rattle.txn_row.specs.Rows.{Course, its_machine, machine_in, transaction, stands_with, sendings_of, is_answered, last_of, count_of, after, no_bank, IsRow, Says, IsInside, IsTurn, Turns}
 use Rattle.txn_row.specs.calls.Parts.{confirm_then, moved_with, IsMoved}
 
 pub self_is : (t : Text) → bytes_eq t t ≡ true

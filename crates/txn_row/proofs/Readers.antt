@@ -1,7 +1,7 @@
 -- What is read of a row, and the row of a transaction that opens.
-use Rattle.std.proofs.Common.{◌≡◌, ℕ, Bool, true, false, [], Option, Some, None, refl, sym, ap, subst, ◌∙◌}
+use Rattle.std.proofs.Common.{◌≡◌, ℕ, Bool, true, false, [], Option, Some, None, refl, sym, ap, ◌∙◌}
 use Rattle.std.specs.Prelude.{is_some, is_none, ◌&&◌, ◌||◌}
-use Rattle.upi_words.specs.Prelude.{Event, Opening, Outcome, PayReq, Said, Setup, Text}
+use Rattle.upi_words.specs.Prelude.{Event, Opening, Outcome, PayReq, Said, Setup}
 use Rattle.upi_base.specs.declared.code.Phase.{Phase}
 use Rattle.upi_base.specs.Lists.{when}
 use Rattle.upi_model.specs.AtClose.{returns_at_close}
@@ -9,16 +9,16 @@ use Rattle.upi_model.specs.Dues.{due_by, due_confirm}
 use Rattle.upi_model.specs.Happenings.{unopened}
 use Rattle.upi_model.specs.Places.{minutes, due_debit}
 use Rattle.upi_model.specs.Postings.{Answers}
-use Rattle.upi_model.specs.Standing.{Standing, Sendings, outcome_on, due_on, cause_on, opens_for, advance}
+use Rattle.upi_model.specs.Standing.{Standing, Sendings, outcome_on, due_on, cause_on, advance}
 use Rattle.txn_machine.specs.declared.stage.{Stage.Stage}
 use Rattle.txn_machine.specs.declared.machine.{Machine.Machine}
 use Rattle.txn_machine.specs.declared.moves.{Move.Move}
-use Rattle.txn_machine.specs.Stands.{Transaction, begun, machine_of, stands, reversal_end_of, returned_of, phase_on}
+use Rattle.txn_machine.specs.Stands.{begun, machine_of, stands, reversal_end_of, returned_of, phase_on}
 use Rattle.txn_machine.specs.Follows.{Begins, Closes, HasOutcome, HasDue, HasPhase, onward}
 use Rattle.status_check.specs.declared.{Confirm.Confirm}
 use Rattle.status_check.specs.Confirms as confirmations
 use Rattle.txn_row.specs.declared.machine.{RowMachine.RowMachine}
-use Rattle.txn_row.specs.Rows.{Course, its_machine, machine_in, transaction, stands_with, sendings_of, is_answered, last_of, count_of, shown, outcome_in, closed_outcome_in, due_in, returns_in, no_bank, IsRow, Says, Opens, unsent}
+use Rattle.txn_row.specs.Rows.{Course, its_machine, machine_in, transaction, stands_with, sendings_of, is_answered, last_of, count_of, shown, outcome_in, closed_outcome_in, due_in, returns_in, no_bank, IsRow, Says, Opens}
 use Rattle.txn_row.specs.calls.Parts.{waits}
 use Rattle.txn_row.proofs.Stills.{outcome_same}
 use Rattle.txn_row.proofs.Confirmations.{has_outcome, is_confirmed}

@@ -1,5 +1,5 @@
 -- Events that leave a row's transaction as it stands.
-use Rattle.std.proofs.Common.{◌≡◌, ℕ, ◌+◌, Bool, true, false, List, [], Option, Some, None, refl, sym, ap, subst, ◌∙◌, arith}
+use Rattle.std.proofs.Common.{◌≡◌, ℕ, ◌+◌, Bool, true, false, [], Option, Some, None, refl, sym, ap, subst, ◌∙◌, arith}
 use Rattle.std.specs.Prelude.{is_some, ◌&&◌, ◌++◌}
 use Rattle.std.specs.Option.{option_or}
 use Rattle.std.specs.Str.{bytes_eq}
@@ -9,15 +9,14 @@ use Rattle.upi_base.proofs.Options.{or_none}
 use Rattle.upi_model.specs.Dues.{acknowledges, acknowledges_on}
 use Rattle.upi_model.specs.Places.{asked, accounts_agree}
 use Rattle.upi_model.specs.Postings.{Answers}
-use Rattle.upi_model.specs.Replies.{reply_by, reply_pay_on, reply_check, reply_confirmed, reply_auth, no}
+use Rattle.upi_model.specs.Replies.{reply_by, reply_pay_on, reply_check, reply_confirmed, no}
 use Rattle.upi_model.specs.Sending.{anew, sent_on_opening, sent_on_decision, sent_on_debit, sent_on_credit, sent_on_reversal, sent_at_places, sent_between}
 use Rattle.upi_model.specs.Standing.{Standing, Sendings, outcome_on, is_due_on, advance, sending}
 use Rattle.txn_machine.specs.declared.stage.{Stage.Stage}
 use Rattle.txn_machine.specs.MachineLaws.{concerns}
-use Rattle.txn_machine.specs.Stands.{Transaction, stands, reversal_end_of}
+use Rattle.txn_machine.specs.Stands.{reversal_end_of}
 use Rattle.txn_machine.proofs.Others.{machine_laws}
-use Rattle.txn_row.specs.declared.turn.{Progress.Progress, Turn.Turn}
-use Rattle.txn_row.specs.Rows.{Course, its_machine, transaction, stands_with, sendings_of, is_answered, outcome_in, after, IsRow, Says, IsInside, IsTurn, Turns}
+use Rattle.txn_row.specs.Rows.{Course, its_machine, transaction, stands_with, outcome_in, IsRow, Turns}
 use Rattle.txn_row.specs.calls.Parts.{still}
 
 -- ---- what no rule reads

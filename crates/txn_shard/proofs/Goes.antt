@@ -5,26 +5,26 @@ use Rattle.std.specs.List.{AllByRecursion, list_any}
 use Rattle.std.specs.Option.{option_map, option_or}
 use Rattle.std.specs.Str.{bytes_eq}
 use Rattle.upi_words.specs.Prelude.{Answer, AuthWord, Body, Event, Leg, Opening, PayReq, Said, Sent, Setup, Text}
-use Rattle.upi_base.specs.Lists.{joined, pick, when}
+use Rattle.upi_base.specs.Lists.{joined, when}
 use Rattle.upi_model.specs.Dues.{orders, confirms}
 use Rattle.upi_model.specs.Happenings.{touches}
-use Rattle.upi_model.specs.Local.{own_sendings, own_room, own_says, local_reply, local_sent}
+use Rattle.upi_model.specs.Local.{own_sendings, own_room, own_says, local_sent}
 use Rattle.upi_model.specs.Own.{Deed, own_opened, own_standing}
 use Rattle.upi_model.specs.Owners.{body_txn}
-use Rattle.upi_model.specs.Places.{has_id, if_of, refusal, opens}
+use Rattle.upi_model.specs.Places.{has_id, refusal, opens}
 use Rattle.upi_model.specs.Postings.{Answers}
 use Rattle.upi_model.specs.Replies.{txn_of}
 use Rattle.upi_model.specs.Sending.{answers_to, sent_between}
 use Rattle.upi_model.specs.Standing.{Standing, Sendings, is_due_on, advance, sending}
 use Rattle.upi_model.specs.Structure.{AreApart}
 use Rattle.upi_model.proofs.Standing.{any_is}
-use Rattle.upi_laws.proofs.Local.{IsSilent, silent_append, silent_answers, silent_sending}
+use Rattle.upi_laws.proofs.Local.{IsSilent, silent_sending}
 use Rattle.txn_row.specs.declared.turn.{Progress.Progress, Turn.Turn}
-use Rattle.txn_row.specs.Rows.{Course, after, Says, IsInside, IsTurn, Turns}
+use Rattle.txn_row.specs.Rows.{Course, after, Says, IsTurn, Turns}
 use Rattle.txn_shard.specs.Rows.{openings, row_at, turned}
-use Rattle.txn_shard.specs.Shard.{Stands, Plan, RowSays, IsHere, IsLocalPlan, Makes, MakesAll, deed_now}
+use Rattle.txn_shard.specs.Shard.{Stands, RowSays, IsHere, Makes, MakesAll}
 use Rattle.txn_shard.specs.calls.Plans.{going}
-use Rattle.txn_shard.proofs.Tables.{self_is, name_is, row_named, row_opened, turned_openings, row_turned, all_turned}
+use Rattle.txn_shard.proofs.Tables.{name_is, row_named, row_opened, turned_openings, row_turned, all_turned}
 use Rattle.txn_shard.proofs.Quiet.{stays_other}
 
 -- ---- messages about one transaction are silent of every other

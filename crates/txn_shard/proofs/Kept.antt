@@ -1,7 +1,6 @@
 -- The table of rows, and when each is due: after a row more, and after a row that comes further.
-use Rattle.std.proofs.Common.{◌≡◌, ℕ, Bool, true, false, cond, List, [], ◌∷◌, ◌++◌, Option, Some, None, refl, sym, ap, subst, ◌∙◌}
-use Rattle.std.specs.Prelude.{map, if◌then◌else◌}
-use Rattle.std.specs.List.{AllByRecursion}
+use Rattle.std.proofs.Common.{◌≡◌, Bool, true, false, cond, List, [], ◌∷◌, ◌++◌, Option, Some, None, refl, sym, ap, subst, ◌∙◌}
+use Rattle.std.specs.Prelude.{if◌then◌else◌}
 use Rattle.std.specs.Map.{lookup, set_value, values_of}
 use Rattle.std.specs.Option.{option_and_then, option_map, option_or}
 use Rattle.std.specs.Str.{bytes_eq}
@@ -18,7 +17,7 @@ use Rattle.txn_row.specs.Rows.{Course, IsRow, after, due_in}
 use Rattle.txn_shard.specs.declared.step.{Change.Change}
 use Rattle.txn_shard.specs.Shard.{CanGo}
 use Rattle.txn_shard.specs.Rows.{row_at, row_if, due_at, turned, IsKeyed, IsKept}
-use Rattle.txn_shard.proofs.Tables.{name_is, row_named, row_more, row_turned}
+use Rattle.txn_shard.proofs.Tables.{name_is, row_more, row_turned}
 
 -- ---- the table finds the row that the list finds
 

@@ -1,17 +1,16 @@
 -- Plans after a legal history, and its next entry.
-use Rattle.std.proofs.Common.{◌≡◌, ℕ, true, false, List, [], ◌∷◌, Some, None, refl, sym, ap, subst, ◌∙◌}
-use Rattle.std.specs.Prelude.{not, ◌&&◌, ◌||◌, ◌==◌, if◌then◌else◌}
-use Rattle.upi_words.specs.Prelude.{Entry, Call, Owner, Sent, Setup, History, Text, Legal, is_closed}
+use Rattle.std.proofs.Common.{◌≡◌, ℕ, false, List, [], ◌∷◌, refl, sym, ap, subst, ◌∙◌}
+use Rattle.std.specs.Prelude.{not, ◌&&◌, if◌then◌else◌}
+use Rattle.upi_words.specs.Prelude.{Entry, Call, Owner, Sent, Setup, History, Legal, is_closed}
 use Rattle.upi_model.specs.History.{is_close}
 use Rattle.upi_model.specs.Local.{StandsFor, local_sent}
 use Rattle.upi_model.specs.Own.{Deed, deeds, own_deeds, event_with, delivered_with}
 use Rattle.upi_model.specs.Owners.{owner_of, message_of, same_owner, own}
-use Rattle.upi_model.specs.Sending.{sent_by}
 use Rattle.upi_model.proofs.Openings.{or_false}
 use Rattle.upi_model.proofs.Own.{same_is}
 use Rattle.upi_laws.proofs.Local.{calls_are_local}
 use Rattle.txn_row.specs.Rows.{Course}
-use Rattle.txn_shard.specs.Shard.{Stands, Plan, Makes, MakesAll, IsPlanOf, deed_now, rows_after}
+use Rattle.txn_shard.specs.Shard.{Stands, Plan, MakesAll, IsPlanOf, deed_now, rows_after}
 
 -- a shard without rows stands for no entries
 pub begins : (S : Setup) (s : ℕ) → Stands S s [] []

@@ -1,21 +1,20 @@
 -- A payment of a new name: it is refused, or it opens.
-use Rattle.std.proofs.Common.{◌≡◌, ℕ, ◌+◌, Bool, true, false, cond, List, [], ◌∷◌, ◌++◌, length, Option, Some, None, refl, sym, ap, subst, ◌∙◌, arith}
-use Rattle.std.specs.Prelude.{◌&&◌, ◌==◌, not, is_some, is_none}
+use Rattle.std.proofs.Common.{◌≡◌, ℕ, Bool, true, false, cond, List, [], ◌∷◌, ◌++◌, length, Option, Some, None, refl, sym, ap, subst, ◌∙◌, arith}
+use Rattle.std.specs.Prelude.{◌&&◌, not, is_some, is_none}
 use Rattle.std.specs.List.{AllByRecursion, list_any, count_by}
 use Rattle.std.specs.Option.{option_map, option_or}
 use Rattle.std.specs.Str.{bytes_eq}
 use Rattle.std.proofs.lemmas.List.Sums.{sum_by-cons}
-use Rattle.upi_words.specs.Prelude.{Code, Event, Opening, Owner, PayReq, Reply, Said, Sent, Setup, Text}
-use Rattle.upi_base.specs.Lists.{joined, pick, when}
+use Rattle.upi_words.specs.Prelude.{Code, Event, Opening, PayReq, Reply, Said, Setup, Text}
+use Rattle.upi_base.specs.Lists.{joined, when}
 use Rattle.upi_base.specs.Setup.{account_at}
 use Rattle.upi_base.specs.Shards.{txn_shard}
 use Rattle.upi_base.proofs.Options.{or_none}
 use Rattle.upi_model.specs.Happenings.{unopened}
-use Rattle.upi_model.specs.Local.{own_sendings, own_room, own_says, local_sent}
+use Rattle.upi_model.specs.Local.{own_sendings, own_room, local_sent}
 use Rattle.upi_model.specs.Own.{Deed, own_opened, own_standing}
-use Rattle.upi_model.specs.Places.{has_id, if_of, in_shard, refusal_at, refusal, opens}
-use Rattle.upi_model.specs.Postings.{Answers}
-use Rattle.upi_model.specs.Replies.{reply_pay_on, ok}
+use Rattle.upi_model.specs.Places.{has_id, in_shard, refusal_at, opens}
+use Rattle.upi_model.specs.Replies.{reply_pay_on}
 use Rattle.upi_model.specs.Sending.{question, sent_at_places}
 use Rattle.upi_model.specs.Standing.{Standing, Sendings, is_due_on, opens_for, advance, sending}
 use Rattle.upi_model.specs.Structure.{AreApart}
@@ -25,7 +24,7 @@ use Rattle.upi_model.proofs.Standing.{any_is}
 use Rattle.upi_laws.proofs.Local.{IsSilent, silent_sending}
 use Rattle.txn_row.specs.Rows.{Course, Says, Opens, unsent}
 use Rattle.txn_shard.specs.Rows.{openings, row_at, row_if}
-use Rattle.txn_shard.specs.Shard.{Stands, Plan, RowSays, IsHere, Makes, MakesAll, deed_now}
+use Rattle.txn_shard.specs.Shard.{Stands, RowSays, IsHere, MakesAll}
 use Rattle.txn_shard.specs.calls.Plans.{quiet, opening_plan}
 use Rattle.txn_shard.proofs.Tables.{self_is, name_is, row_opened, row_more, openings_more, apart_more}
 use Rattle.txn_shard.proofs.Quiet.{quiet_stands, stays_other}

@@ -10,7 +10,7 @@ use Rattle.upi_model.specs.Owners.{body_owner, delivered_owner, input_owner, mes
 use Rattle.upi_model.specs.Postings.{Answers}
 use Rattle.upi_model.specs.Replies.{ok}
 use Rattle.upi_model.specs.Sending.{answers_to}
-use Rattle.txn_row.specs.declared.turn.{Progress.Progress, Turn.Turn}
+use Rattle.txn_row.specs.declared.turn.{Turn.Turn}
 use Rattle.txn_row.specs.Rows.{Course, IsRow, Turns, after}
 use Rattle.txn_shard.specs.declared.step.{Change.Change}
 use Rattle.txn_shard.specs.Rows.{Shard, row_at}

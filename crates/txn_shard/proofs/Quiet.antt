@@ -1,28 +1,22 @@
 -- Events that change no row.
-use Rattle.std.proofs.Common.{◌≡◌, ℕ, Bool, true, false, List, [], ◌∷◌, ◌++◌, Option, Some, None, refl, sym, ap, subst, ◌∙◌, append-nil}
-use Rattle.std.specs.Prelude.{◌&&◌, is_some}
-use Rattle.std.specs.List.{AllByRecursion, count_by}
-use Rattle.std.specs.Option.{option_map}
+use Rattle.std.proofs.Common.{◌≡◌, ℕ, Bool, true, false, List, [], ◌∷◌, ◌++◌, Option, Some, None, refl, sym, ap, subst, ◌∙◌}
 use Rattle.std.specs.Str.{bytes_eq}
-use Rattle.upi_words.specs.Prelude.{Answer, AuthWord, Body, Code, Event, Leg, Opening, Party, PayReq, Reply, Said, Sent, Setup, Text, Ver}
-use Rattle.upi_base.specs.Lists.{joined, pick, when}
-use Rattle.upi_base.specs.Shards.{txn_shard}
+use Rattle.upi_words.specs.Prelude.{Answer, AuthWord, Code, Event, Leg, Opening, Reply, Said, Sent, Setup, Text}
+use Rattle.upi_base.specs.Lists.{joined}
 use Rattle.upi_base.proofs.Options.{some_same}
-use Rattle.upi_model.specs.Dues.{orders, confirms}
 use Rattle.upi_model.specs.Happenings.{unopened, touches}
-use Rattle.upi_model.specs.Local.{own_sendings, own_room, own_says, local_reply, local_sent}
+use Rattle.upi_model.specs.Local.{own_sendings, own_room, own_says, local_sent}
 use Rattle.upi_model.specs.Own.{Deed, own_opened, own_standing}
-use Rattle.upi_model.specs.Owners.{body_txn}
-use Rattle.upi_model.specs.Places.{if_of, opens}
+use Rattle.upi_model.specs.Places.{opens}
 use Rattle.upi_model.specs.Postings.{Answers}
 use Rattle.upi_model.specs.Replies.{txn_of, reply_by, reply_ended, no, ok}
-use Rattle.upi_model.specs.Sending.{answer_to, answers_to, sent_between}
+use Rattle.upi_model.specs.Sending.{answers_to, sent_between}
 use Rattle.upi_model.specs.Standing.{Standing, Sendings, is_due_on, advance, sending}
 use Rattle.upi_model.proofs.Happenings.{advance_other}
-use Rattle.upi_laws.proofs.Local.{IsSilent, silent_append, silent_answers, silent_sending}
-use Rattle.txn_row.specs.Rows.{Course, Says, unsent}
-use Rattle.txn_shard.specs.Rows.{openings, row_at}
-use Rattle.txn_shard.specs.Shard.{Stands, Plan, RowSays, IsLocalPlan, Makes, MakesAll, deed_now}
+use Rattle.upi_laws.proofs.Local.{IsSilent, silent_answers, silent_sending}
+use Rattle.txn_row.specs.Rows.{Course, unsent}
+use Rattle.txn_shard.specs.Rows.{row_at}
+use Rattle.txn_shard.specs.Shard.{Stands, RowSays, MakesAll, deed_now}
 use Rattle.txn_shard.specs.calls.Plans.{quiet}
 use Rattle.txn_shard.proofs.Tables.{row_named, name_is}
 

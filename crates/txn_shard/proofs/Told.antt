@@ -1,14 +1,14 @@
 -- What readers say of the entries for which the rows stand.
-use Rattle.std.proofs.Common.{◌≡◌, ℕ, Bool, false, List, [], ◌∷◌, ◌++◌, Option, Some, None, refl, sym, ap, subst, ◌∙◌}
+use Rattle.std.proofs.Common.{◌≡◌, ℕ, false, List, [], ◌∷◌, ◌++◌, Option, Some, None, refl, sym, ap, subst, ◌∙◌}
 use Rattle.std.specs.Prelude.{if◌then◌else◌}
 use Rattle.std.specs.List.{AllByRecursion, flat_map}
 use Rattle.std.specs.Option.{option_and_then}
-use Rattle.upi_words.specs.Prelude.{Event, Leg, Opening, Outcome, Sent, Setup, Text}
+use Rattle.upi_words.specs.Prelude.{Event, Leg, Setup, Text}
 use Rattle.upi_model.specs.AtClose.{returns_at_close, returned_at_close, at_close}
 use Rattle.upi_model.specs.Local.{own_sendings}
 use Rattle.upi_model.specs.Own.{Deed, own_standing}
 use Rattle.upi_model.specs.Sending.{order}
-use Rattle.upi_model.specs.Standing.{Standing, Sendings, outcome_on, due_on, advance}
+use Rattle.upi_model.specs.Standing.{Standing, outcome_on, due_on, advance}
 use Rattle.txn_row.specs.Rows.{Course, Says, outcome_in, closed_outcome_in, due_in, returns_in, row_returns}
 use Rattle.txn_row.proofs.Readers.{says_outcome, says_due, says_returns, says_closed}
 use Rattle.txn_shard.specs.Rows.{openings, row_at, outcome_at, closed_outcome_at, due_at, rows_return}

@@ -1,5 +1,5 @@
 -- What a contract sees of a shard of transactions: its rows, and what the readers say of them.
-use Rattle.std.specs.Prelude.{ℕ, ◌≡◌, ◌≤◌, ◌↔◌, Bool, if◌then◌else◌, List, [], ◌∷◌, map, Option, Some, None, Contains, IsSorted}
+use Rattle.std.specs.Prelude.{ℕ, ◌≡◌, ◌≤◌, ◌↔◌, if◌then◌else◌, List, [], ◌∷◌, map, Option, Some, Contains, IsSorted}
 use Rattle.std.specs.List.{AllByRecursion, IsDistinct, flat_map}
 use Rattle.std.specs.Option.{option_and_then}
 use Rattle.std.specs.Map.{values_of}

@@ -1,8 +1,7 @@
 -- What a shard of transactions has to do with legal histories, and what its readers say of the entries for which it stands: the laws.
-use Rattle.std.specs.Prelude.{ℕ, ◌≡◌, false, List, ◌∷◌, Option, [], true}
-use Rattle.upi_words.specs.Prelude.{Entry, Call, Event, Owner, Sent, Setup, History, Text, Legal, is_closed}
+use Rattle.std.specs.Prelude.{ℕ, ◌≡◌, false, List, ◌∷◌, []}
+use Rattle.upi_words.specs.Prelude.{Entry, Call, Event, Owner, Setup, History, Text, Legal, is_closed}
 use Rattle.upi_model.specs.AtClose.{at_close}
-use Rattle.upi_model.specs.Fits.{owner_with}
 use Rattle.upi_model.specs.History.{is_close}
 use Rattle.upi_model.specs.Local.{own_sendings}
 use Rattle.upi_model.specs.Own.{Deed, own_deeds, own_standing, event_with, delivered_with}

@@ -15,7 +15,7 @@ use Rattle.txn_machine.specs.declared.moves.{Move.Move, Wants.Wants}
 use Rattle.txn_machine.specs.Follows.{HasOutcome, messages}
 use Rattle.status_check.specs.declared.{Confirm.Confirm}
 use Rattle.txn_row.specs.declared.machine.{RowMachine.RowMachine}
-use Rattle.txn_row.specs.declared.turn.{Progress.Progress, Turn.Turn}
+use Rattle.txn_row.specs.declared.turn.{Turn.Turn}
 use Rattle.txn_row.specs.Rows.{Course, machine_in}
 
 -- the account at an address, by its name

@@ -1,7 +1,5 @@
-use Rattle.std.proofs.Common.{Bool, Option, None, subst, sym, ap, ◌∙◌}
-use Rattle.std.specs.Prelude.{is_some}
+use Rattle.std.proofs.Common.{subst, sym, ap, ◌∙◌}
 use Rattle.upi_words.specs.Prelude.{Event, Said}
-use Rattle.status_check.specs.declared.{Confirm.Confirm}
 use Rattle.txn_row.specs.declared.turn.{Turn.Turn}
 use Rattle.txn_row.specs.Rows.{Course, Turns, IsRow}
 use Rattle.txn_row.proofs.Stills.{early_confirms}

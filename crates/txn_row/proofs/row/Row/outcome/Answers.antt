@@ -1,5 +1,5 @@
-use Rattle.std.proofs.Common.{subst, ap, ◌∙◌}
-use Rattle.txn_row.specs.Rows.{Course, outcome_in}
+use Rattle.std.proofs.Common.{ap, ◌∙◌}
+use Rattle.txn_row.specs.Rows.{outcome_in}
 use Rattle.txn_row.proofs.Readers.{outcome_is}
 use Rattle.txn_row.proofs.row.Row.outcome.Goals as goal
 

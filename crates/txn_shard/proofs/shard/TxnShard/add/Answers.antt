@@ -3,9 +3,8 @@ use Rattle.std.specs.Prelude.{if◌then◌else◌}
 use Rattle.std.specs.Map.{values_of}
 use Rattle.std.specs.Str.{bytes_eq}
 use Rattle.upi_words.specs.Prelude.{Opening, Text}
-use Rattle.indexmap.specs.IndexMap.{insert_entry}
 use Rattle.expiry_clock.specs.Dues.{moment_of}
-use Rattle.txn_row.specs.Rows.{Course, due_in}
+use Rattle.txn_row.specs.Rows.{Course}
 use Rattle.txn_shard.specs.Rows.{Shard, IsKept, row_at}
 use Rattle.txn_shard.proofs.Kept.{added_is, kept_more, values_more}
 use Rattle.txn_shard.proofs.shard.TxnShard.add.Goals as goal

@@ -1,6 +1,6 @@
-use Rattle.std.proofs.Common.{sym, ap, subst, ◌∙◌}
+use Rattle.std.proofs.Common.{sym, ap, ◌∙◌}
 use Rattle.txn_shard.specs.declared.step.{Change.Change}
-use Rattle.txn_shard.specs.Shard.{Plan, IsReady, rows_after}
+use Rattle.txn_shard.specs.Shard.{Plan, rows_after}
 use Rattle.txn_shard.proofs.Plans.{ready_change}
 use Rattle.txn_shard.proofs.shard.TxnShard.commit.Goals as goal
 

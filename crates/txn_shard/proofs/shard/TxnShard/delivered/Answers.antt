@@ -1,4 +1,4 @@
-use Rattle.std.proofs.Common.{refl, sym, Some, Option, [], ◌≡◌, ◌∙◌, ap, ℕ}
+use Rattle.std.proofs.Common.{refl, sym, Some, Option, [], ◌≡◌, ap, ℕ}
 use Rattle.upi_words.specs.Prelude.{AuthWord, Body, Event, Said, Sent}
 use Rattle.upi_model.specs.History.{said_by}
 use Rattle.upi_model.specs.Postings.{Answers}

@@ -1,5 +1,4 @@
-use Rattle.std.proofs.Common.{List, ℕ, subst}
-use Rattle.upi_words.specs.Prelude.{Text}
+use Rattle.std.proofs.Common.{subst}
 use Rattle.expiry_clock.specs.Dues.{IsDueList}
 use Rattle.txn_shard.specs.Rows.{Shard, IsDueOf}
 use Rattle.txn_shard.proofs.Lists.{ok_list, due_of_rows}

@@ -1,11 +1,9 @@
-use Rattle.std.proofs.Common.{ap, sym, refl, [], None, ◌∙◌, subst}
-use Rattle.upi_words.specs.Prelude.{AuthWord, Code, Event, Message, Said, Text}
-use Rattle.upi_base.specs.declared.message.AuthResp.{AuthResp}
+use Rattle.std.proofs.Common.{ap, sym, refl, [], None, ◌∙◌}
+use Rattle.upi_words.specs.Prelude.{Code, Event, Message, Said}
 use Rattle.upi_model.specs.Replies.{no}
-use Rattle.txn_shard.specs.Shard.{Plan, MakesAll}
-use Rattle.txn_shard.specs.calls.Plans.{quiet, word_of}
+use Rattle.txn_shard.specs.calls.Plans.{quiet}
 use Rattle.txn_shard.proofs.Quiet.{foreign_makes}
-use Rattle.txn_shard.proofs.Plans.{HeardAll, heard_same, heard_as, pay_heard, auth_heard, makes_same, quiet_planned}
+use Rattle.txn_shard.proofs.Plans.{heard_same, heard_as, pay_heard, auth_heard, makes_same, quiet_planned}
 use Rattle.txn_shard.proofs.shard.TxnShard.hear.Goals as goal
 
 pub returns-in-Pay-clause-makes : goal.returns-in-Pay-clause-makes

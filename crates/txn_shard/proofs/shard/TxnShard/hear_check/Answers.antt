@@ -4,7 +4,6 @@ use Rattle.upi_model.specs.Replies.{no}
 use Rattle.txn_shard.specs.calls.Plans.{quiet, going}
 use Rattle.txn_shard.proofs.Goes.{check_goes}
 use Rattle.txn_shard.proofs.Quiet.{vain_check}
-use Rattle.txn_shard.proofs.Tables.{row_named}
 use Rattle.txn_shard.proofs.Plans.{going_planned, quiet_planned, makes_same, named_check}
 use Rattle.txn_shard.proofs.shard.TxnShard.hear_check.Goals as goal
 

@@ -1,4 +1,4 @@
-use Rattle.std.proofs.Common.{[], None}
+use Rattle.std.proofs.Common.{[]}
 use Rattle.upi_words.specs.Prelude.{Code, Event, Said}
 use Rattle.upi_model.specs.Replies.{no}
 use Rattle.txn_shard.specs.calls.Plans.{quiet, going}

@@ -1,4 +1,4 @@
-use Rattle.std.proofs.Common.{[], None}
+use Rattle.std.proofs.Common.{[]}
 use Rattle.upi_words.specs.Prelude.{Event}
 use Rattle.upi_model.specs.Replies.{ok}
 use Rattle.txn_shard.specs.calls.Plans.{quiet, going}

@@ -1,12 +1,9 @@
-use Rattle.std.proofs.Common.{[], None, sym, subst}
-use Rattle.upi_words.specs.Prelude.{Code, Event, Input, Message, Owner}
-use Rattle.upi_model.specs.History.{heard_from}
-use Rattle.upi_model.specs.Owners.{input_owner}
+use Rattle.std.proofs.Common.{[], None}
+use Rattle.upi_words.specs.Prelude.{Code, Event, Input}
 use Rattle.upi_model.specs.Replies.{no}
-use Rattle.txn_shard.specs.Shard.{Plan, MakesAll}
 use Rattle.txn_shard.specs.calls.Plans.{quiet}
 use Rattle.txn_shard.proofs.Quiet.{unread_makes}
-use Rattle.txn_shard.proofs.Plans.{makes_same, quiet_planned, InputAll, input_same, input_as}
+use Rattle.txn_shard.proofs.Plans.{makes_same, quiet_planned, input_same, input_as}
 use Rattle.txn_shard.proofs.shard.TxnShard.heard.Goals as goal
 
 pub returns-in-Bad-clause-planned : goal.returns-in-Bad-clause-planned

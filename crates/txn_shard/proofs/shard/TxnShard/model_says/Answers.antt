@@ -1,4 +1,4 @@
-use Rattle.std.proofs.Common.{None, Some, Option, List, [], ◌≡◌, ℕ}
+use Rattle.std.proofs.Common.{Some, Option, [], ◌≡◌, ℕ}
 use Rattle.upi_words.specs.Prelude.{Event, Party, Said, Sent}
 use Rattle.upi_model.specs.Postings.{Answers}
 use Rattle.upi_model.specs.Sending.{answers_to}

@@ -1,8 +1,4 @@
-use Rattle.std.proofs.Common.{List, ap, ◌∙◌}
-use Rattle.upi_words.specs.Prelude.{Opening, PayReq, Sent}
-use Rattle.upi_model.specs.Replies.{ok}
-use Rattle.txn_shard.specs.declared.step.{Change.Change}
-use Rattle.txn_shard.specs.Shard.{Plan}
+use Rattle.std.proofs.Common.{ap, ◌∙◌}
 use Rattle.txn_shard.proofs.Plans.{plan_with, opening_at}
 use Rattle.txn_shard.proofs.shard.TxnShard.opened.Goals as goal
 
