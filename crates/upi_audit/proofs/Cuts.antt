@@ -18,6 +18,14 @@ after_short (c ∷ cs) = omega (arith, short_by (c == 10) c cs (after_line cs) (
 pub after_shorter : (c : ℕ) (cs : Text) → length (after_line (c ∷ cs)) < length (c ∷ cs)
 after_shorter c cs = short_by (c == 10) c cs (after_line cs) (after_short cs)
 
+-- so it begins after the first byte
+pub line_end_some : (text : Text) → 0 < length text → 0 < length text - length (after_line text)
+line_end_some [] some = absurd (omega (arith, some))
+line_end_some (c ∷ cs) some = omega (arith, after_shorter c cs)
+
+pub line_end_within : (text : Text) → length text - length (after_line text) ≤ length text
+line_end_within text = omega arith
+
 drop_one : (n : ℕ) (c : ℕ) (cs : Text) (m : ℕ) → n ≡ suc m → drop n (c ∷ cs) ≡ drop m cs
 drop_one n c cs m is = ap (λ (k : ℕ). drop k (c ∷ cs)) is
 

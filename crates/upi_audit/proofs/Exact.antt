@@ -75,6 +75,6 @@ verdict_is_exact S ls report (Verdict.No place AuditWhy.Report) j = (λ e. absur
   where
     unlike : IsRightSomehow S ls report → ⊥
     unlike r =
-        let wanted : report ≡ reported_lines S j.history = r.1.report ∙ ap (reported_lines S) (one_history S ls r.0 j.history r.1.lines j.lines) in
+        let wanted : report ≡ reported_lines S j.history = r.1.reported ∙ ap (reported_lines S) (one_history S ls r.0 j.history r.1.lines j.lines) in
         let both : None ≡ Some place = sym (never_differs report) ∙ (ap (first_difference report) wanted ∙ j.differs) in
         absurd cc

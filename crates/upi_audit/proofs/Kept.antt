@@ -134,7 +134,7 @@ report_kept setup ls report core entries matched due line new open' same all (So
     subst (IsBenchOf (journal setup ls (Some (report ++ line ∷ [])))) (sym e) (record { opened = open'; setup = same; entries = all; known = reports.wrong_line core.setup ls report (Verdict.No w.place w.why) line ending })
 report_kept setup ls report core entries matched due line new open' same all None ending e = go (is_next_line due line) refl e
   where
-    go : (t : Bool) → is_next_line due line ≡ t → new ≡ report_judged (bench core entries matched None (Some due)) due t → IsBenchOf (journal setup ls (Some (report ++ line ∷ []))) new
+    go : (t : Bool) → is_next_line due line ≡ t → new ≡ report_judged (bench core entries matched None (Some due)) due None t → IsBenchOf (journal setup ls (Some (report ++ line ∷ []))) new
     go true is e = subst (IsBenchOf (journal setup ls (Some (report ++ line ∷ [])))) (sym e) (record { opened = open'; setup = same; entries = all; known = reports.line_taken core.setup ls report due line ending is })
     go false isnt e = subst (IsBenchOf (journal setup ls (Some (report ++ line ∷ [])))) (sym e) (record { opened = open'; setup = same; entries = all; known = reports.line_differs core.setup ls report due line ending isnt })
 

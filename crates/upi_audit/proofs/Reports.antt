@@ -40,7 +40,7 @@ open_judges S ls report g matched count c isnt all = record {
   history = c.history;
   lines = c.lines;
   closed = caller_laws.closes c.history g c.same ∙ isnt;
-  count = omega (arith, all, ap length c.lines.lines, lines_length c.history);
+  counted = omega (arith, all, ap length c.lines.lines, lines_length c.history);
 }
 
 -- nothing is wrong
@@ -88,7 +88,7 @@ wrong_end S ls report v w = subst (λ (l : List Text). JudgesJournal S ls l v) (
 pub right_end : (S : Setup) (ls : List Lined) (report : List Text) (lines count : ℕ) (rest : Text) → IsReporting S ls report (record { rest = rest; lines = lines }) → count ≡ length ls → (length rest == 0) ≡ true
     → JudgesJournal S ls report (Verdict.Yes count)
 right_end S ls report lines count [] r all done =
-    (r.history, record { lines = r.lines; closed = r.closed; report = sym (r.rest ∙ append-nil report) }, omega (arith, all, ap length r.lines.lines, lines_length r.history))
+    (r.history, record { lines = r.lines; closed = r.closed; reported = sym (r.rest ∙ append-nil report) }, omega (arith, all, ap length r.lines.lines, lines_length r.history))
 right_end S ls report lines count (c ∷ cs) r all done = absurd cc
 
 pub missing_end : (S : Setup) (ls : List Lined) (report : List Text) (lines : ℕ) (rest : Text) → IsReporting S ls report (record { rest = rest; lines = lines }) → (length rest == 0) ≡ false

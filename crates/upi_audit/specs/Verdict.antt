@@ -42,7 +42,7 @@ reported_lines S h = lines_in (report_text S h)
 pub record IsRight (S : Setup) (ls : List Lined) (report : List Text) (h : History) : Type 0 where
   pub lines : AreOf S ls h
   pub closed : is_closed h ≡ true
-  pub report : report ≡ reported_lines S h
+  pub reported : report ≡ reported_lines S h
 
 -- the first reason for which these aren't the lines of a right entry after that history
 abbrev pub IsLineFault : Setup → History → Lined → AuditWhy → Type 0
@@ -67,7 +67,7 @@ pub record IsOpen (S : Setup) (ls : List Lined) (count : ℕ) : Type 0 where
   pub history : History
   pub lines : AreOf S ls history
   pub closed : is_closed history ≡ false
-  pub count : count ≡ length history
+  pub counted : count ≡ length history
 
 -- the lines are those of a legal history that is closed, and the report line of that number is the first that isn't this history's
 pub record IsMisreported (S : Setup) (ls : List Lined) (report : List Text) (number : ℕ) : Type 0 where

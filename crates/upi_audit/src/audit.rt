@@ -47,7 +47,7 @@ impl Audit {
         }
     }
 
-    // ReadsLine a line before OPEN. At OPEN the judge comes.
+    // Reads a line before OPEN. At OPEN the judge comes.
     fn setup_line(&mut self, line: &[u8]) -> Result<(), EngineFault>
         requires { self.old.bench ≡ None }
         ensures line { SetupLineAnswer self.old.setup line.now self.new result }
@@ -64,7 +64,7 @@ impl Audit {
         }
     }
 
-    // ReadsLine a line.
+    // Reads a line.
     fn read(&mut self, line: &[u8]) -> Result<(), EngineFault>
         ensures line { TryAnswer self.old.setup self.old.bench line.now self.new result }
         ensures failed { self.new.failed ≡ self.old.failed }
@@ -85,7 +85,7 @@ impl Audit {
         }
     }
 
-    /// ReadsLine a line, which comes without its line end.
+    /// Reads a line, which comes without its line end.
     ///
     /// It is `Bad` exactly outside the grammar of journals, with the first reason, and then changes
     /// nothing: setup lines up to OPEN, then E lines, each with the place after that of the one before

@@ -1,5 +1,5 @@
 //! The report that is due, line by line.
-ghost use Rattle.std.specs.Prelude.{◌≡◌, ◌==◌, ◌≤◌, length, drop};
+ghost use Rattle.std.specs.Prelude.{◌≡◌, ◌==◌, ◌+◌, ◌<◌, ◌≤◌, length, drop};
 ghost use Rattle.upi_audit.specs.calls.Steps;
 
 use std::marker::Model;
@@ -49,10 +49,11 @@ fn after_line(text: &[u8]) -> &[u8]
 }
 
 // Where what follows the first line feed begins.
-#[tactic(auto, using(crate::proofs::Cuts::line_end_is, crate::proofs::Cuts::line_end_within))]
+#[tactic(auto, using(crate::proofs::Cuts::line_end_is, crate::proofs::Cuts::line_end_within, crate::proofs::Cuts::after_short, crate::proofs::Cuts::line_end_some))]
 fn line_end(text: &[u8]) -> usize
     ensures rest { drop result text.now ≡ Steps.after_line text.now }
     ensures within { result ≤ length text.now }
+    ensures some { 0 < length text.now → 0 < result }
 {
     text.len() - after_line(text).len()
 }
@@ -69,11 +70,11 @@ impl Closing {
         }
     }
 
-    /// How many lines have come.
-    pub(crate) fn lines(&self) -> u64
-        ensures { result ≡ self.now.lines }
+    /// The number of the next line, counted from 1.
+    pub(crate) fn number(&self) -> u64
+        ensures { result ≡ self.now.lines + 1 }
     {
-        self.lines
+        self.lines + 1
     }
 
     /// Whether all has come.

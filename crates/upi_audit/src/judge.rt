@@ -86,7 +86,7 @@ fn is_line_of(
     line: &[u8],
     text: &mut Vec<u8>,
 ) -> Result<bool, NoMemory>
-    ensures { IfOk result (λ b. b ≡ Steps.is_line_of n (option_copied sent) line.now) }
+    ensures { IfOk result (λ b. b ≡ Steps.is_line_of n (option_copied sent.entry) line.now) }
 {
     match sent {
         None => Ok(false),
@@ -106,6 +106,24 @@ fn wrong_at(place: u64, why: Option<AuditWhy>) -> Option<Wrong>
         None => None,
         Some(why) => Some(Wrong { place, why }),
     }
+}
+
+// What is wrong after a line of the report, which is taken where it is the next one and nothing was
+// wrong before.
+fn wrong_after(due: &mut Closing, wrong: Option<Wrong>, line: &[u8]) -> Option<Wrong>
+    ensures wrong { result ≡ Steps.wrong_after due.old wrong (Steps.is_next_line due.old line.now) }
+    ensures due { due.new ≡ Steps.due_after due.old wrong (Steps.is_next_line due.old line.now) }
+{
+    if wrong.is_some() {
+        return wrong;
+    }
+    if due.take(line) {
+        return None;
+    }
+    Some(Wrong {
+        place: due.number(),
+        why: AuditWhy::Report,
+    })
 }
 
 impl Judge {
@@ -162,12 +180,13 @@ impl Judge {
         ensures { IfOk result (λ _. Steps.EntryAnswer self.old line self.new (option_or self.old.wrong (Steps.unsent self.old))) }
     {
         let place = line.place;
-        let wrong = self.wrong.or(self.unsent());
-        if wrong.is_none() {
-            self.wrong = wrong_at(place, play(&mut self.core, line)?);
-        } else {
-            self.wrong = wrong;
+        if let Some(wrong) = self.wrong.or(self.unsent()) {
+            self.wrong = Some(wrong);
+            self.entries = place;
+            return Ok(());
         }
+        let why = play(&mut self.core, line)?;
+        self.wrong = wrong_at(place, why);
         self.entries = place;
         Ok(())
     }
@@ -193,12 +212,12 @@ impl Judge {
         }
         if self.is_due(line)? {
             self.matched += 1;
-        } else {
-            self.wrong = Some(Wrong {
-                place: self.entries,
-                why: AuditWhy::Sent,
-            });
+            return Ok(());
         }
+        self.wrong = Some(Wrong {
+            place: self.entries,
+            why: AuditWhy::Sent,
+        });
         Ok(())
     }
 
@@ -239,17 +258,12 @@ impl Judge {
         }
     }
 
-    /// ReadsLine a line after OPEN.
+    /// Reads a line after OPEN.
     pub(crate) fn line(&mut self, line: &[u8]) -> Result<(), EngineFault>
         ensures { Steps.BenchAnswer self.old line.now self.new self.old.due result }
     {
         if let Some(due) = &mut self.due {
-            if self.wrong.is_none() && !due.take(line) {
-                self.wrong = Some(Wrong {
-                    place: due.lines() + 1,
-                    why: AuditWhy::Report,
-                });
-            }
+            self.wrong = wrong_after(due, self.wrong, line);
             return Ok(());
         }
         self.step(line)
@@ -274,7 +288,7 @@ impl Judge {
             })
         } else {
             Some(Verdict::No {
-                entry: due.lines() + 1,
+                entry: due.number(),
                 why: AuditWhy::Report,
             })
         }

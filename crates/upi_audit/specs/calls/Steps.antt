@@ -88,15 +88,25 @@ report_step b = record {
   due = Some (record { rest = report_text b.core.setup b.core.history; lines = 0 });
 }
 
--- a line of the report where nothing was wrong
-abbrev pub report_judged : Bench → Due → Bool → Bench
-report_judged b d true = record { core = b.core; entries = b.entries; matched = b.matched; wrong = b.wrong; due = Some (next_taken d) }
-report_judged b d false = record { core = b.core; entries = b.entries; matched = b.matched; wrong = Some (record { place = d.lines + 1; why = AuditWhy.Report }); due = Some d }
+-- what is wrong after a line of the report, which is the next one or not
+abbrev pub wrong_after : Due → Option Wrong → Bool → Option Wrong
+wrong_after d (Some w) next = Some w
+wrong_after d None true = None
+wrong_after d None false = Some (record { place = d.lines + 1; why = AuditWhy.Report })
 
--- a line of the report: where something is wrong already, it doesn't count
+-- what is due after a line of the report: where something is wrong already, it doesn't count
+abbrev pub due_after : Due → Option Wrong → Bool → Due
+due_after d (Some w) next = d
+due_after d None true = next_taken d
+due_after d None false = d
+
+-- what is kept after a line of the report, which is the next one or not
+abbrev pub report_judged : Bench → Due → Option Wrong → Bool → Bench
+report_judged b d wrong next = record { core = b.core; entries = b.entries; matched = b.matched; wrong = wrong_after d wrong next; due = Some (due_after d wrong next) }
+
+-- a line of the report
 abbrev pub report_line_step : Bench → Due → Text → Option Wrong → Bench
-report_line_step b d line None = report_judged b d (is_next_line d line)
-report_line_step b d line (Some w) = b
+report_line_step b d line wrong = report_judged b d wrong (is_next_line d line)
 
 -- a call that may not come, or that has another reply
 abbrev pub IsEarlyFault : Setup → History → EntryLine → AuditWhy → Type 0

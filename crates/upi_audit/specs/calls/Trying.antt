@@ -1,5 +1,5 @@
 -- What the functions that try a line answer.
-use Rattle.std.specs.Prelude.{◌≡◌, true, Option, Some, None, Result, Ok, Err}
+use Rattle.std.specs.Prelude.{◌≡◌, true, false, Option, Some, None, Result, Ok, Err}
 use Rattle.upi_words.specs.Prelude.{Text}
 use Rattle.upi_base.specs.declared.fault.EngineFault.{EngineFault}
 use Rattle.upi_text.specs.Refusals.{refusal}
