@@ -3,6 +3,7 @@ use Rattle.std.proofs.Common.{◌≡◌, ℕ, ◌+◌, Bool, true, false, List, 
 use Rattle.std.specs.Prelude.{if◌then◌else◌, not, ◌==◌, ◌&&◌, option_map}
 use Rattle.std.specs.Str.{bytes_eq}
 use Rattle.std.proofs.lemmas.Bool.{and_parts}
+use Rattle.std.proofs.lemmas.Bool.Decides.{nat_tests}
 use Rattle.std.proofs.lemmas.List.{append-nil}
 use Rattle.std.proofs.lemmas.Slice.Eq.{bytes_eq-Decides}
 use Rattle.upi_words.specs.Prelude.{Text}
@@ -45,11 +46,15 @@ missing given c cs =
     ∙ (after_front given [] (lines_in (c ∷ cs))
     ∙ (ap (λ (l : List Text). option_map (λ (n : ℕ). n + length given) (first_difference [] l)) (lines_cut c cs) ∙ ap Some (omega arith)))
 
+-- a text with a byte isn't empty
+pub some_bytes : (c : ℕ) (cs : Text) → (length (c ∷ cs) == 0) ≡ false
+some_bytes c cs = grind (arith, nat_tests)
+
 -- the next line of a text is another one
 other_line : (line : Text) (more : List Text) (rest : Text) → (not (length rest == 0) && bytes_eq line (first_line rest)) ≡ false → first_difference (line ∷ more) (lines_in rest) ≡ Some 1
 other_line line more [] no_line = refl
 other_line line more (c ∷ cs) no_line =
-    let apart : bytes_eq line (first_line (c ∷ cs)) ≡ false = no_line in
+    let apart : bytes_eq line (first_line (c ∷ cs)) ≡ false = ap (λ (b : Bool). not b && bytes_eq line (first_line (c ∷ cs))) (sym (some_bytes c cs)) ∙ no_line in
     ap (λ (l : List Text). first_difference (line ∷ more) l) (lines_cut c cs)
     ∙ ap (λ (b : Bool). if b then option_map (λ (n : ℕ). n + 1) (first_difference more (lines_in (after_line (c ∷ cs)))) else Some 1) apart
 

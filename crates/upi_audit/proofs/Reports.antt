@@ -13,7 +13,7 @@ use Rattle.upi_audit.specs.Lines.{lines_in, first_difference}
 use Rattle.upi_audit.specs.Verdict.{lines_of, AreOf, reported_lines, IsFirstSpoiled, JudgesJournal}
 use Rattle.upi_audit.specs.calls.Keeping.{Due, IsReporting, IsWrong}
 use Rattle.upi_audit.specs.calls.Steps.{first_line, after_line, is_next_line, next_taken}
-use Rattle.upi_audit.proofs.Differences.{missing, differs, next_line}
+use Rattle.upi_audit.proofs.Differences.{some_bytes, missing, differs, next_line}
 use Rattle.upi_audit.proofs.Entries.{wrong_first}
 use Rattle.upi_audit.proofs.Messages.{IsComplete, lines_length}
 
@@ -89,7 +89,7 @@ pub right_end : (S : Setup) (ls : List Lined) (report : List Text) (lines count 
     → JudgesJournal S ls report (Verdict.Yes count)
 right_end S ls report lines count [] r all done =
     (r.history, record { lines = r.lines; closed = r.closed; reported = sym (r.rest ∙ append-nil report) }, omega (arith, all, ap length r.lines.lines, lines_length r.history))
-right_end S ls report lines count (c ∷ cs) r all done = absurd cc
+right_end S ls report lines count (c ∷ cs) r all done = let both : true ≡ false = sym done ∙ some_bytes c cs in absurd cc
 
 pub missing_end : (S : Setup) (ls : List Lined) (report : List Text) (lines : ℕ) (rest : Text) → IsReporting S ls report (record { rest = rest; lines = lines }) → (length rest == 0) ≡ false
     → JudgesJournal S ls report (Verdict.No (lines + 1) AuditWhy.Report)

@@ -1,6 +1,6 @@
 //! What judges a journal after OPEN: each line is held against what the switch answers, and nothing of
 //! it is kept.
-ghost use Rattle.std.specs.Prelude.{◌≡◌, ◌↔◌, IsTrue, IfOk, None};
+ghost use Rattle.std.specs.Prelude.{◌≡◌, ◌<◌, ◌↔◌, IsTrue, IfOk, None, true};
 ghost use Rattle.std.specs.Option.{option_copied, option_or};
 ghost use Rattle.recon_report.specs.Report.{report_text};
 ghost use Rattle.switch_core.specs.Calls.{is_known as knows};
@@ -14,7 +14,7 @@ use std::alloc::Global;
 use std::marker::Model;
 use switch_core::{Core, CoreFault};
 use upi_base::{
-    AuditWhy, Call, EngineFault, NoMemory, Reply, Sent, Setup, SetupLine, Verdict, has_psp,
+    AuditWhy, Call, Done, EngineFault, NoMemory, Reply, Sent, Setup, SetupLine, Verdict, has_psp,
 };
 use upi_text::message_line;
 
@@ -58,16 +58,13 @@ fn is_known(lines: &[SetupLine], call: &Call) -> bool
     }
 }
 
-// Plays a call. The answer is why its E line is wrong, if it is.
-fn play(core: &mut Core, line: EntryLine) -> Result<Option<AuditWhy>, NoMemory>
-    ensures { IfOk result (λ why. Steps.PlayedAnswer core.old line core.new why) }
+// What is wrong with an E line of this reply whose call was answered so, if something is.
+fn judged(answer: Result<Done, CoreFault>, reply: Reply) -> Result<Option<AuditWhy>, NoMemory>
+    ensures { Steps.CallJudged answer reply result }
 {
-    if !is_known(core.lines(), &line.call) {
-        return Ok(Some(AuditWhy::Call));
-    }
-    match core.apply(line.call, line.at) {
+    match answer {
         Ok(done) => {
-            if same_reply(line.reply, done.reply) {
+            if same_reply(reply, done.reply) {
                 Ok(None)
             } else {
                 Ok(Some(AuditWhy::Reply))
@@ -77,6 +74,19 @@ fn play(core: &mut Core, line: EntryLine) -> Result<Option<AuditWhy>, NoMemory>
         Err(CoreFault::Full { len: _len }) => Ok(Some(AuditWhy::Call)),
         Err(CoreFault::NoMessage { n: _n, sent: _sent }) => Ok(Some(AuditWhy::Call)),
     }
+}
+
+// Plays a call. The answer is why its E line is wrong, if it is.
+#[tactic(auto, using(crate::proofs::Calls::unknown_call, crate::proofs::Calls::call_judged))]
+fn play(core: &mut Core, line: EntryLine) -> Result<Option<AuditWhy>, NoMemory>
+    ensures { Steps.IsPlayed core.old line core.new result }
+{
+    if !is_known(core.lines(), &line.call) {
+        return Ok(Some(AuditWhy::Call));
+    }
+    let reply = line.reply;
+    let answer = core.apply(line.call, line.at);
+    judged(answer, reply)
 }
 
 // Whether a line is the M line of a message with this number, if there is one.
@@ -175,25 +185,36 @@ impl Judge {
         }
     }
 
-    // An E line.
-    fn entry(&mut self, line: EntryLine) -> Result<(), NoMemory>
-        ensures { IfOk result (λ _. Steps.EntryAnswer self.old line self.new (option_or self.old.wrong (Steps.unsent self.old))) }
+    // An E line where nothing was wrong before.
+    fn entry_judged(&mut self, line: EntryLine) -> Result<(), NoMemory>
+        ensures { IfOk result (λ _. Steps.EntryAnswer self.old line self.new None) }
     {
         let place = line.place;
-        if let Some(wrong) = self.wrong.or(self.unsent()) {
-            self.wrong = Some(wrong);
-            self.entries = place;
-            return Ok(());
-        }
         let why = play(&mut self.core, line)?;
         self.wrong = wrong_at(place, why);
         self.entries = place;
         Ok(())
     }
 
+    // An E line.
+    #[tactic(auto, using(crate::proofs::Calls::entry_some, crate::proofs::Calls::entry_none))]
+    fn entry(&mut self, line: EntryLine) -> Result<(), NoMemory>
+        ensures { IfOk result (λ _. Steps.EntryAnswer self.old line self.new (option_or self.old.wrong (Steps.unsent self.old))) }
+    {
+        match self.wrong.or(self.unsent()) {
+            Some(wrong) => {
+                self.wrong = Some(wrong);
+                self.entries = line.place;
+                Ok(())
+            }
+            None => self.entry_judged(line),
+        }
+    }
+
     // Whether a line is the M line that is due.
     fn is_due(&mut self, line: &[u8]) -> Result<bool, NoMemory>
         ensures is { IfOk result (λ b. b ≡ Steps.is_due_line self.old line.now) }
+        ensures fits { IfOk result (λ b. b ≡ true → self.old.matched < 18_446_744_073_709_551_615) }
         ensures same { self.new ≡ self.old }
     {
         if self.matched >= self.core.sent_count() {
@@ -203,22 +224,39 @@ impl Judge {
         is_line_of(n, self.core.message(n), line, &mut self.text)
     }
 
+    // An M line where nothing was wrong before: it is the one that is due, or not.
+    fn note_message(&mut self, due: bool)
+        requires { due ≡ true → self.old.matched < 18_446_744_073_709_551_615 }
+        ensures { self.new ≡ Steps.message_judged self.old due }
+    {
+        if due {
+            self.matched += 1;
+        } else {
+            self.wrong = Some(Wrong {
+                place: self.entries,
+                why: AuditWhy::Sent,
+            });
+        }
+    }
+
+    // An M line where nothing was wrong before.
+    fn message_judged(&mut self, line: &[u8]) -> Result<(), NoMemory>
+        ensures { IfOk result (λ _. self.new ≡ Steps.message_judged self.old (Steps.is_due_line self.old line.now)) }
+    {
+        let due = self.is_due(line)?;
+        self.note_message(due);
+        Ok(())
+    }
+
     // An M line.
+    #[tactic(auto, using(crate::proofs::Calls::message_some, crate::proofs::Calls::message_none))]
     fn message(&mut self, line: &[u8]) -> Result<(), NoMemory>
         ensures { IfOk result (λ _. self.new ≡ Steps.message_step self.old line.now self.old.wrong) }
     {
-        if self.wrong.is_some() {
-            return Ok(());
+        match self.wrong {
+            Some(_wrong) => Ok(()),
+            None => self.message_judged(line),
         }
-        if self.is_due(line)? {
-            self.matched += 1;
-            return Ok(());
-        }
-        self.wrong = Some(Wrong {
-            place: self.entries,
-            why: AuditWhy::Sent,
-        });
-        Ok(())
     }
 
     // The report that is due.

@@ -2,7 +2,7 @@
 use upi_base::AuditWhy;
 
 /// What is wrong first with a journal.
-#[derive(Clone, Copy, Debug, PartialEq, Eq)]
+#[derive(Clone, Copy)]
 pub(crate) struct Wrong {
     /// The place of the entry, or the number of the report's line, counted from 1; the count of
     /// entries where there is no Close.

@@ -2,7 +2,7 @@
 use Rattle.std.specs.Prelude.{ℕ, ◌≡◌, ◌+◌, ◌==◌, nat_lt, Bool, true, false, not, ◌&&◌, if◌then◌else◌, List, [], ◌∷◌, length, Option, Some, None, Result, Ok, Err}
 use Rattle.std.specs.Option.{option_or}
 use Rattle.std.specs.Str.{bytes_eq}
-use Rattle.upi_words.specs.Prelude.{AuditWhy, History, Sent, Setup, Text, Verdict, is_closed}
+use Rattle.upi_words.specs.Prelude.{AuditWhy, History, Reply, Sent, Setup, Text, Verdict, is_closed}
 use Rattle.upi_base.specs.Lists.{when}
 use Rattle.upi_base.specs.declared.fault.EngineFault.{EngineFault}
 use Rattle.upi_base.specs.declared.fault.NoMemory.{NoMemory}
@@ -13,6 +13,8 @@ use Rattle.upi_model.specs.Replies.{reply_to}
 use Rattle.upi_text.specs.Journal.{message_line}
 use Rattle.upi_text.specs.Refusals.{refusal}
 use Rattle.switch_core.specs.Calls.{with_call}
+use Rattle.switch_core.specs.declared.fault.CoreFault.{CoreFault}
+use Rattle.upi_base.specs.declared.entry.Done.{Done}
 use Rattle.recon_report.specs.Report.{report_text}
 use Rattle.journal_lines.specs.Lines.{line_read}
 use Rattle.journal_lines.specs.declared.entry.EntryLine.{EntryLine}
@@ -120,6 +122,27 @@ IsEarlyFault S h e AuditWhy.Report = ⊥
 abbrev pub PlayedAnswer : Chronicle → EntryLine → Chronicle → Option AuditWhy → Type 0
 PlayedAnswer c e new None = (may_come c.setup c.history e.call ≡ true) × (e.reply ≡ reply_to c.setup c.history e.call e.at) × (new ≡ with_call c e.call e.at)
 PlayedAnswer c e new (Some why) = IsEarlyFault c.setup c.history e why × (new.setup ≡ c.setup)
+
+-- the same, or there was no memory
+abbrev pub IsPlayed : Chronicle → EntryLine → Chronicle → Result (Option AuditWhy) NoMemory → Type 0
+IsPlayed c e new (Ok why) = PlayedAnswer c e new why
+IsPlayed c e new (Err fault) = Unit {0}
+
+-- what is wrong with an E line of this reply whose call was answered so
+abbrev pub CallJudged : Result Done CoreFault → Reply → Result (Option AuditWhy) NoMemory → Type 0
+CallJudged (Ok done) reply (Ok None) = reply ≡ done.reply
+CallJudged (Ok done) reply (Ok (Some AuditWhy.Reply)) = ¬ reply ≡ done.reply
+CallJudged (Ok done) reply (Ok (Some AuditWhy.Call)) = ⊥
+CallJudged (Ok done) reply (Ok (Some AuditWhy.Sent)) = ⊥
+CallJudged (Ok done) reply (Ok (Some AuditWhy.NoClose)) = ⊥
+CallJudged (Ok done) reply (Ok (Some AuditWhy.Report)) = ⊥
+CallJudged (Ok done) reply (Err fault) = ⊥
+CallJudged (Err CoreFault.NoMemory) reply (Ok why) = ⊥
+CallJudged (Err CoreFault.NoMemory) reply (Err fault) = Unit {0}
+CallJudged (Err (CoreFault.Full len)) reply (Ok why) = why ≡ Some AuditWhy.Call
+CallJudged (Err (CoreFault.Full len)) reply (Err fault) = ⊥
+CallJudged (Err (CoreFault.NoMessage n sent)) reply (Ok why) = why ≡ Some AuditWhy.Call
+CallJudged (Err (CoreFault.NoMessage n sent)) reply (Err fault) = ⊥
 
 -- what is wrong with an entry at a place
 abbrev pub wrong_at : ℕ → Option AuditWhy → Option Wrong
