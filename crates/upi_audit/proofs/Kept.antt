@@ -12,6 +12,9 @@ use Rattle.upi_text.specs.Refusals.{◌>>=◌, refusal}
 use Rattle.upi_text.specs.Setup.{SetupState, setup_read, state_after}
 use Rattle.upi_text.specs.declared.refusal.Refusal.{Refusal}
 use Rattle.upi_text.specs.declared.setup.SetupRead.{SetupRead}
+use Rattle.upi_text.specs.declared.setup_text.SetupStep.{SetupStep}
+use Rattle.upi_text.specs.SetupText.{step_of}
+use Rattle.upi_base.specs.declared.setup.Setup.{Setup as Setups}
 use Rattle.journal_lines.specs.Lines.{line_read}
 use Rattle.journal_lines.specs.declared.entry.EntryLine.{EntryLine}
 use Rattle.journal_lines.specs.declared.line.JournalLine.{JournalLine}
@@ -21,7 +24,7 @@ use Rattle.upi_audit.specs.Verdict.{IsFirstSpoiled, JudgesJournal}
 use Rattle.upi_audit.specs.Audit.{AuditLineAnswer, VerdictAnswer}
 use Rattle.upi_audit.specs.calls.Keeping.{Due, Bench, AuditState, IsGoing, IsWrong, IsJudged, IsReporting, IsEnding, IsKnownOf, IsBenchOf, IsKept, HasRead, IsOpenedOnce}
 use Rattle.upi_audit.specs.calls.Steps.{is_next_line, next_taken, just_opened, now_wrong, unsent, unclosed, is_line_of, message_judged, message_step, report_step, report_judged, report_line_step, PlayedAnswer, wrong_at, EntryAnswer, StepAnswer, BenchAnswer, verdict_now, verdict_of}
-use Rattle.upi_audit.specs.calls.Trying.{SetupTaken, SetupLineAnswer, JudgeAnswer, TryAnswer, SettleAnswer}
+use Rattle.upi_audit.specs.calls.Trying.{SetupTaken, SetupLineAnswer, JudgeAnswer, TryAnswer, is_no_memory}
 use Rattle.upi_audit.specs.declared.wrong.Wrong.{Wrong}
 use Rattle.upi_audit.proofs.Entries.{played, not_played, wrong_first, wrong_message}
 use Rattle.upi_audit.proofs.Messages.{complete, unsent_wrong, due_read, other_read}
@@ -188,42 +191,69 @@ abbrev state : SetupState → Option Bench → Bool → AuditState
 state S bench' failed = record { setup = S; bench = bench'; failed = failed }
 
 -- a line before OPEN
-early_settled : (S : SetupState) (failed : Bool) (mid new : AuditState) (line : Text) (answer : Result (Unit {0}) EngineFault) → S.is_open ≡ false → failed ≡ false → SetupLineAnswer S line mid answer → mid.failed ≡ failed → SettleAnswer mid answer new
+early_settled : (S : SetupState) (failed : Bool) (new : AuditState) (line : Text) (answer : Result (Unit {0}) EngineFault) → S.is_open ≡ false → failed ≡ false → SetupLineAnswer S line new answer → new.failed ≡ failed → is_no_memory answer ≡ false
     → AuditLineAnswer (journal S [] None) (state S None failed) line new answer
-early_settled S failed mid new line (Ok u) closed sound answer kept settled = (
+early_settled S failed new line (Ok u) closed sound answer kept there = (
   journal (state_after S answer.0) [] None,
   early_line (journal S [] None) line (Ok (journal (state_after S answer.0) [] None)) closed (ap (λ (r : Result SetupRead Refusal). r >>= λ (x : SetupRead). Ok (journal (state_after S x) [] None)) answer.1),
-  subst (HasRead (journal (state_after S answer.0) [] None)) (sym settled) (kept ∙ sound, setup_kept (state_after S answer.0) mid.setup mid.bench answer.2),
+  (kept ∙ sound, setup_kept (state_after S answer.0) new.setup new.bench answer.2),
 )
-early_settled S failed mid new line (Err (EngineFault.Bad field why)) closed sound answer kept settled = (
+early_settled S failed new line (Err (EngineFault.Bad field why)) closed sound answer kept there = (
   early_line (journal S [] None) line (Err (refusal field why)) closed (ap (λ (r : Result SetupRead Refusal). r >>= λ (x : SetupRead). Ok (journal (state_after S x) [] None)) answer.0),
-  settled ∙ (λ i. state (answer.1 i) (answer.2 i) (kept i)),
+  λ i. state (answer.1 i) (answer.2 i) (kept i),
 )
-early_settled S failed mid new line (Err EngineFault.NoMemory) closed sound answer kept settled = settled
+early_settled S failed new line (Err EngineFault.NoMemory) closed sound answer kept there = absurd cc
 
 -- a line after OPEN
-later_settled : (j : Journal) (S : SetupState) (b : Bench) (failed : Bool) (S' : SetupState) (bench' : Option Bench) (failed' : Bool) (new : AuditState) (line : Text) (answer : Result (Unit {0}) EngineFault) → IsBenchOf j b → failed ≡ false
-    → JudgeAnswer S b line S' bench' answer → failed' ≡ failed → SettleAnswer (state S' bench' failed') answer new → AuditLineAnswer j (state S (Some b) failed) line new answer
-later_settled j S b failed S' None failed' new line answer is sound judged kept settled = absurd judged
-later_settled j S b failed S' (Some b') failed' new line (Ok u) is sound judged kept settled =
+later_settled : (j : Journal) (S : SetupState) (b : Bench) (failed : Bool) (S' : SetupState) (bench' : Option Bench) (failed' : Bool) (line : Text) (answer : Result (Unit {0}) EngineFault) → IsBenchOf j b → failed ≡ false
+    → JudgeAnswer S b line S' bench' answer → failed' ≡ failed → is_no_memory answer ≡ false → AuditLineAnswer j (state S (Some b) failed) line (state S' bench' failed') answer
+later_settled j S b failed S' None failed' line answer is sound judged kept there = absurd judged
+later_settled j S b failed S' (Some b') failed' line (Ok u) is sound judged kept there =
     let later = later_kept j b b' line is judged.1 in
-    (later.0, opened_line j line (Ok later.0) is.opened later.1, subst (HasRead later.0) (sym settled) (kept ∙ sound, later.2))
-later_settled j S b failed S' (Some b') failed' new line (Err (EngineFault.Bad field why)) is sound judged kept settled =
+    (later.0, opened_line j line (Ok later.0) is.opened later.1, (kept ∙ sound, later.2))
+later_settled j S b failed S' (Some b') failed' line (Err (EngineFault.Bad field why)) is sound judged kept there =
     let refused = refused_parts j j.report b b' b.due line field why is.entries is.known judged.1 in
-    (opened_line j line (Err (refusal field why)) is.opened refused.0, settled ∙ (λ i. state (judged.0 i) (Some (refused.1 i)) (kept i)))
-later_settled j S b failed S' (Some b') failed' new line (Err EngineFault.NoMemory) is sound judged kept settled = settled
+    (opened_line j line (Err (refusal field why)) is.opened refused.0, λ i. state (judged.0 i) (Some (refused.1 i)) (kept i))
+later_settled j S b failed S' (Some b') failed' line (Err EngineFault.NoMemory) is sound judged kept there = absurd cc
 
-line_parts : (j : Journal) (S : SetupState) (bench' : Option Bench) (failed : Bool) (mid new : AuditState) (line : Text) (answer : Result (Unit {0}) EngineFault) → IsOpenedOnce S bench' → HasRead j (state S bench' failed)
-    → TryAnswer S bench' line mid answer → mid.failed ≡ failed → SettleAnswer mid answer new → AuditLineAnswer j (state S bench' failed) line new answer
-line_parts j S None failed mid new line answer once read tried kept settled =
-    subst (λ (k : Journal). AuditLineAnswer k (state S None failed) line new answer) (sym read.1) (early_settled S failed mid new line answer once read.0 tried kept settled)
-line_parts j S (Some b) failed mid new line answer once read tried kept settled =
-    later_settled j S b failed mid.setup mid.bench mid.failed new line answer read.1 read.0 tried kept settled
+line_parts : (j : Journal) (S : SetupState) (bench' : Option Bench) (failed : Bool) (new : AuditState) (line : Text) (answer : Result (Unit {0}) EngineFault) → IsOpenedOnce S bench' → HasRead j (state S bench' failed)
+    → TryAnswer S bench' line new answer → new.failed ≡ failed → is_no_memory answer ≡ false → AuditLineAnswer j (state S bench' failed) line new answer
+line_parts j S None failed new line answer once read tried kept there =
+    subst (λ (k : Journal). AuditLineAnswer k (state S None failed) line new answer) (sym read.1) (early_settled S failed new line answer once read.0 tried kept there)
+line_parts j S (Some b) failed new line answer once read tried kept there =
+    later_settled j S b failed new.setup new.bench new.failed line answer read.1 read.0 tried kept there
 
--- a line that was tried is answered
-pub line_settled : (j : Journal) (old mid new : AuditState) (line : Text) (answer : Result (Unit {0}) EngineFault) → IsOpenedOnce old.setup old.bench → HasRead j old → TryAnswer old.setup old.bench line mid answer → mid.failed ≡ old.failed
-    → SettleAnswer mid answer new → AuditLineAnswer j old line new answer
-line_settled j old mid new line answer once read tried kept settled = line_parts j old.setup old.bench old.failed mid new line answer once read tried kept settled
+-- a line that was tried, where there was memory, is answered
+pub line_settled : (j : Journal) (old new : AuditState) (line : Text) (answer : Result (Unit {0}) EngineFault) → IsOpenedOnce old.setup old.bench → HasRead j old → TryAnswer old.setup old.bench line new answer → new.failed ≡ old.failed
+    → is_no_memory answer ≡ false → AuditLineAnswer j old line new answer
+line_settled j old new line answer once read tried kept there = line_parts j old.setup old.bench old.failed new line answer once read tried kept there
+
+-- ---- the setup, read
+
+stays_closed : (S : SetupState) (r : SetupRead) → SetupStep.More ≡ step_of r → S.is_open ≡ false → (state_after S r).is_open ≡ false
+stays_closed S SetupRead.Skipped more closed = closed
+stays_closed S (SetupRead.Start start) more closed = closed
+stays_closed S (SetupRead.Line l) more closed = closed
+stays_closed S SetupRead.Open more closed = absurd cc
+
+opens : (S : SetupState) (r : SetupRead) → SetupStep.Opened ≡ step_of r → (state_after S r).is_open ≡ true
+opens S SetupRead.Skipped opened' = absurd cc
+opens S (SetupRead.Start start) opened' = absurd cc
+opens S (SetupRead.Line l) opened' = absurd cc
+opens S SetupRead.Open opened' = refl
+
+-- what a line of the setup comes to
+abbrev pub SetupLineTaken : SetupState → Text → SetupState → Option Bench → Type 0
+SetupLineTaken S line new bench' = (r : SetupRead) × (setup_read S line ≡ Ok r) × SetupTaken (state_after S r) new bench'
+
+-- more of the setup is to come
+pub setup_more : (S new : SetupState) (bench' : Option Bench) (line : Text) (r : SetupRead) → S.is_open ≡ false → bench' ≡ None → setup_read S line ≡ Ok r → SetupStep.More ≡ step_of r → new ≡ state_after S r → SetupLineTaken S line new bench'
+setup_more S new bench' line r closed none read more made = (r, read, subst (SetupTaken (state_after S r) new) (sym none) (made, stays_closed S r more closed))
+
+-- OPEN was read
+pub setup_opened : (S other : SetupState) (setup : Setups) (b : Bench) (line : Text) (r : SetupRead) → setup_read S line ≡ Ok r → SetupStep.Opened ≡ step_of r → state_after S r ≡ record { start = Some setup.start; lines = setup.lines; is_open = true } → b ≡ just_opened setup.lines
+    → SetupLineTaken S line other (Some b)
+setup_opened S other setup b line r read opened' made is = (r, read, (opens S r opened', is ∙ ap (λ (T : SetupState). just_opened T.lines) (sym made)))
 
 -- ---- the end
 

@@ -1,5 +1,6 @@
 //! An audit, which reads a journal line by line.
 ghost use Rattle.std.specs.Prelude.{◌≡◌};
+ghost use Rattle.upi_audit.specs.calls.Trying.{is_no_memory};
 
 use crate::judge::Judge;
 use std::alloc::Global;
@@ -28,12 +29,29 @@ impl Model for Audit {
     ghost invariant = { λ a. IsOpenedOnce a.setup a.judge };
 }
 
+// Whether there was no memory.
+fn is_no_memory(answer: &Result<(), EngineFault>) -> bool
+    ensures { result ≡ is_no_memory answer.now }
+{
+    match answer {
+        Ok(()) => false,
+        Err(
+            EngineFault::Bad {
+                field: _field,
+                why: _why,
+            },
+        ) => false,
+        Err(EngineFault::NoMemory) => true,
+    }
+}
+
 impl Audit {
-    ghost use Rattle.std.specs.Prelude.{◌≡◌, true, false, None, Err};
+    ghost use Rattle.std.specs.Prelude.{◌≡◌, true, None, Err};
+    ghost use Rattle.upi_base.specs.declared.fault.EngineFault.{EngineFault};
     ghost use Rattle.upi_audit.specs.Journal.{blank_journal};
     ghost use Rattle.upi_audit.specs.Audit.{ReadsLine, ReadsEnd, StaysFailed};
     ghost use Rattle.upi_audit.specs.calls.Keeping.{HasRead, IsOpenedOnce};
-    ghost use Rattle.upi_audit.specs.calls.Trying.{SetupLineAnswer, TryAnswer, SettleAnswer};
+    ghost use Rattle.upi_audit.specs.calls.Trying.{SetupLineAnswer, TryAnswer};
 
     /// An audit that has read nothing. `alloc` serves all that it keeps.
     pub fn new(alloc: Global) -> Audit
@@ -53,8 +71,8 @@ impl Audit {
         ensures line { SetupLineAnswer self.old.setup line.now self.new result }
         ensures failed { self.new.failed ≡ self.old.failed }
     {
-        let mut text = Vec::new(self.alloc);
-        match self.setup.line(line, &mut text)? {
+        let mut form = Vec::new(self.alloc);
+        match self.setup.line(line, &mut form)? {
             SetupStep::More => Ok(()),
             SetupStep::Opened => {
                 let text = mem::replace(&mut self.setup, SetupText::new(self.alloc));
@@ -76,14 +94,13 @@ impl Audit {
         self.setup_line(line)
     }
 
-    // At want of memory, there is none from now on.
-    fn settle(&mut self, answer: &Result<(), EngineFault>)
-        ensures { SettleAnswer self.old answer.now self.new }
+    // From now on there is no memory.
+    fn give_up(&mut self) -> EngineFault
+        ensures fault { result ≡ EngineFault.NoMemory }
+        ensures failed { self.new.failed ≡ true }
     {
-        match answer {
-            Err(EngineFault::NoMemory) => self.failed = true,
-            _ => {}
-        }
+        self.failed = true;
+        EngineFault::NoMemory
     }
 
     /// Reads a line, which comes without its line end.
@@ -101,7 +118,9 @@ impl Audit {
             return Err(EngineFault::NoMemory);
         }
         let answer = self.read(line);
-        self.settle(&answer);
+        if is_no_memory(&answer) {
+            return Err(self.give_up());
+        }
         answer
     }
 

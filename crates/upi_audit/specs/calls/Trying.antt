@@ -1,5 +1,5 @@
 -- What the functions that try a line answer.
-use Rattle.std.specs.Prelude.{◌≡◌, true, false, Option, Some, None, Result, Ok, Err}
+use Rattle.std.specs.Prelude.{◌≡◌, Bool, true, false, Option, Some, None, Result, Ok, Err}
 use Rattle.upi_words.specs.Prelude.{Text}
 use Rattle.upi_base.specs.declared.fault.EngineFault.{EngineFault}
 use Rattle.upi_text.specs.Refusals.{refusal}
@@ -29,8 +29,8 @@ abbrev pub TryAnswer : SetupState → Option Bench → Text → AuditState → R
 TryAnswer S None line new result = SetupLineAnswer S line new result
 TryAnswer S (Some b) line new result = JudgeAnswer S b line new.setup new.bench result
 
--- at want of memory there is none from now on
-abbrev pub SettleAnswer : AuditState → Result (Unit {0}) EngineFault → AuditState → Type 0
-SettleAnswer a (Ok u) new = new ≡ a
-SettleAnswer a (Err (EngineFault.Bad field why)) new = new ≡ a
-SettleAnswer a (Err EngineFault.NoMemory) new = new.failed ≡ true
+-- there was no memory
+abbrev pub is_no_memory : Result (Unit {0}) EngineFault → Bool
+is_no_memory (Ok u) = false
+is_no_memory (Err (EngineFault.Bad field why)) = false
+is_no_memory (Err EngineFault.NoMemory) = true
