@@ -110,6 +110,7 @@ impl Audit {
     /// it, and M lines after some E line, up to REPORT. Lines that are empty or begin with `#` are
     /// passed over until then; after REPORT each line is taken as it is. At want of memory the audit
     /// answers `NoMemory` from then on, and changes nothing any more.
+    #[tactic(auto, using(crate::proofs::Kept::line_settled))]
     pub fn line(&mut self, line: &[u8]) -> Result<(), EngineFault>
         ensures line { ReadsLine self.old line.now self.new result }
         ensures failed { StaysFailed self.old self.new result }
@@ -135,6 +136,7 @@ impl Audit {
     ///
     /// It is `Bad` with `End` exactly where OPEN or REPORT wasn't read, and `NoMemory` exactly where
     /// memory has failed before.
+    #[tactic(auto, using(crate::proofs::Kept::verdict_ends, crate::proofs::Kept::none_ends))]
     pub fn end(&self) -> Result<Verdict, EngineFault>
         ensures end { ReadsEnd self.now result }
         ensures failed { self.now.failed ≡ true → result ≡ Err EngineFault.NoMemory }
