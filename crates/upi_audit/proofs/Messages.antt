@@ -210,7 +210,7 @@ other_read S ls g matched line going some isnt = go going.history going.legal go
         let m = stands (sent_count before + 1) e.sent a.read line more whole in
         let there : message_at g (matched + 1) ≡ Some m.0 = message_here before e g (length a.read) matched same a.count ∙ m.1 in
         let spelled : message_line (matched + 1) m.0 ≡ line = ap (λ (k : ℕ). message_line k m.0) (sym number) ∙ m.2 in
-        let long : length a.read + (1 + length more) ≡ length e.sent = sym (length-append a.read (line ∷ more)) ∙ (ap length whole ∙ messages_length (sent_count before + 1) e.sent) in
+        let long : length a.read + length (line ∷ more) ≡ length e.sent = sym (length-append a.read (line ∷ more)) ∙ (ap length whole ∙ messages_length (sent_count before + 1) e.sent) in
         both_true (nat_lt matched (sent_count g)) (is_line_of (matched + 1) (message_at g (matched + 1)) line) (less_is matched (sent_count g) (omega (arith, counts, a.count, long))) (line_due (matched + 1) (message_at g (matched + 1)) line m.0 there spelled) isnt in
         let now : IsWrong S (record { said = said_of before e; messages = a.read ++ line ∷ [] } ∷ lines_of before) (length ls) AuditWhy.Sent = inr (record {
           before = before;

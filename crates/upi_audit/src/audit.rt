@@ -65,14 +65,13 @@ impl Audit {
         }
     }
 
-    // Reads a line before OPEN. At OPEN the judge comes.
-    fn setup_line(&mut self, line: &[u8]) -> Result<(), EngineFault>
+    // Reads a line before OPEN, and appends its one form. At OPEN the judge comes.
+    fn setup_line(&mut self, line: &[u8], form: &mut Vec<u8>) -> Result<(), EngineFault>
         requires { self.old.bench ≡ None }
         ensures line { SetupLineAnswer self.old.setup line.now self.new result }
         ensures failed { self.new.failed ≡ self.old.failed }
     {
-        let mut form = Vec::new(self.alloc);
-        match self.setup.line(line, &mut form)? {
+        match self.setup.line(line, form)? {
             SetupStep::More => Ok(()),
             SetupStep::Opened => {
                 let text = mem::replace(&mut self.setup, SetupText::new(self.alloc));
@@ -91,7 +90,8 @@ impl Audit {
         if let Some(judge) = &mut self.judge {
             return judge.line(line);
         }
-        self.setup_line(line)
+        let mut form = Vec::new(self.alloc);
+        self.setup_line(line, &mut form)
     }
 
     // From now on there is no memory.
