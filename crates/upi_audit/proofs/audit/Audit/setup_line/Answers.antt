@@ -1,6 +1,5 @@
-use Rattle.std.proofs.Common.{◌≡◌, false, Option, None, Ok, sym, ◌∙◌, ap, subst}
-use Rattle.upi_audit.specs.calls.Keeping.{AuditState, Bench, IsOpenedOnce}
-use Rattle.upi_audit.specs.calls.Trying.{SetupLineAnswer}
+use Rattle.std.proofs.Common.{◌≡◌, false, None, Some, sym, ◌∙◌, ap, subst}
+use Rattle.upi_audit.specs.calls.Keeping.{AuditState, IsOpenedOnce}
 use Rattle.upi_audit.proofs.Kept.{SetupLineTaken, setup_more, setup_opened}
 use Rattle.upi_audit.proofs.audit.Audit.setup_line.Goals as goal
 
