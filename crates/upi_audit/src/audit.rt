@@ -75,7 +75,7 @@ impl Audit {
             SetupStep::More => Ok(()),
             SetupStep::Opened => {
                 let text = mem::replace(&mut self.setup, SetupText::new(self.alloc));
-                let judge = Judge::new(self.alloc, text.into_setup())?;
+                let judge = Judge::new(self.alloc, text.into_directory())?;
                 self.judge = Some(judge);
                 Ok(())
             }

@@ -13,10 +13,9 @@ use recon_report::report;
 use std::alloc::Global;
 use std::marker::Model;
 use switch_core::{Core, CoreFault};
-use upi_base::{
-    AuditWhy, Call, Done, EngineFault, NoMemory, Reply, Sent, Setup, SetupLine, Verdict, has_psp,
-};
+use upi_base::{AuditWhy, Call, Done, EngineFault, NoMemory, Reply, Sent, Verdict};
 use upi_text::message_line;
+use vpa_directory::Directory;
 
 /// What judges a journal after OPEN. Contracts see the switch that plays its calls, how many entries
 /// and messages were read, what is wrong first, and the report that is due.
@@ -49,11 +48,11 @@ fn same_reply(a: Reply, b: Reply) -> bool
 }
 
 // Whether the PSP of a Hear is in the setup.
-fn is_known(lines: &[SetupLine], call: &Call) -> bool
-    ensures { result ≡ knows lines.now call.now }
+fn is_known(directory: &Directory, call: &Call) -> bool
+    ensures { result ≡ knows directory.now.lines call.now }
 {
     match call {
-        Call::Hear { psp, input: _input } => has_psp(lines, psp.bytes()),
+        Call::Hear { psp, input: _input } => directory.has_psp(psp),
         _ => true,
     }
 }
@@ -81,7 +80,7 @@ fn judged(answer: Result<Done, CoreFault>, reply: Reply) -> Result<Option<AuditW
 fn play(core: &mut Core, line: EntryLine) -> Result<Option<AuditWhy>, NoMemory>
     ensures { Steps.IsPlayed core.old line core.new result }
 {
-    if !is_known(core.lines(), &line.call) {
+    if !is_known(core.directory(), &line.call) {
         return Ok(Some(AuditWhy::Call));
     }
     let reply = line.reply;
@@ -137,24 +136,21 @@ fn wrong_after(due: &mut Closing, wrong: Option<Wrong>, line: &[u8]) -> Option<W
 }
 
 impl Judge {
-    /// A judge of a journal with an accepted setup, after OPEN.
-    pub(crate) fn new(alloc: Global, setup: Setup) -> Result<Judge, NoMemory>
-        ensures { IfOk result (λ j. j ≡ Steps.just_opened setup.lines) }
+    /// A judge of a journal over the setup of a directory, after OPEN.
+    pub(crate) fn new(alloc: Global, directory: Directory) -> Result<Judge, NoMemory>
+        ensures { IfOk result (λ j. j ≡ Steps.just_opened directory.lines) }
     {
-        match Core::new(alloc, setup) {
-            Ok(core) => Ok(Judge {
-                alloc,
-                core,
-                lines: JournalReader::new(alloc),
-                text: Vec::new(alloc),
-                entries: 0,
-                matched: 0,
-                wrong: None,
-                due: None,
-            }),
-            // The setup was accepted line by line, so that only memory can be wanting.
-            Err(_at) => Err(NoMemory),
-        }
+        let core = Core::over(alloc, directory)?;
+        Ok(Judge {
+            alloc,
+            core,
+            lines: JournalReader::new(alloc),
+            text: Vec::new(alloc),
+            entries: 0,
+            matched: 0,
+            wrong: None,
+            due: None,
+        })
     }
 
     // That messages of the latest entry have no M line.
@@ -267,7 +263,7 @@ impl Judge {
         let balances = self.core.balances()?;
         let text = report(
             self.alloc,
-            self.core.lines(),
+            self.core.directory(),
             &rows,
             &balances,
             self.core.flight(),

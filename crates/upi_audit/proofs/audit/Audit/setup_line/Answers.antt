@@ -17,9 +17,9 @@ pub returns-in_ok-judge-in-Opened-clause-line : goal.returns-in_ok-judge-in-Open
 returns-in_ok-judge-in-Opened-clause-line c =
     let S = c.self.inside.setup in
     let a = c.in_ok-line.ensures.answer in
-    let made = sym a.3 ∙ (sym c.replace-text.ensures.value ∙ c.into_setup.ensures.read) in
+    let made = sym a.3 ∙ (sym c.replace-text.ensures.value ∙ c.into_directory.ensures.read) in
     subst (λ (s : AuditState). SetupLineTaken s.setup c.args.line.now c.self.inside.setup (Some c.in_ok-judge-in-Opened.judge)) c.self.view_is
-    (setup_opened S c.self.inside.setup c.into_setup.result c.in_ok-judge-in-Opened.judge c.args.line.now a.0 a.1 (sym c.in-Opened.is ∙ a.2) made c.in_ok-judge-in-Opened.ensures)
+    (setup_opened S c.self.inside.setup c.into_directory.result c.in_ok-judge-in-Opened.judge c.args.line.now a.0 a.1 (sym c.in-Opened.is ∙ a.2) made c.in_ok-judge-in-Opened.ensures)
 
 pub line-requires : goal.line-requires
 line-requires c = subst (IsOpenedOnce c.self.inside.setup) (ap (λ (a : AuditState). a.bench) c.self.view_is ∙ c.requires) c.self.invariant
