@@ -52,6 +52,10 @@ abbrev mutual
 unfoldable pub seen : {A : Type 0} → Value A → Data
 seen v = data_of (value_view v)
 
+-- no number of a tree over its text is out of range
+abbrev pub ranged : {A : Type 0} → Value A → Bool
+ranged v = in_range (value_view v)
+
 -- the items of a list, seen so
 abbrev pub seen_items : {A : Type 0} → List (Value A) → Items
 seen_items [] = no_items

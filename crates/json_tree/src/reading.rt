@@ -1,7 +1,7 @@
 //! Reading a tree.
-ghost use Rattle.std.specs.Prelude.{◌≡◌, ◌≢◌, Some, None, IfOk, MatchOption, IsUtf8, option_map};
+ghost use Rattle.std.specs.Prelude.{◌≡◌, ◌≢◌, true, Some, None, IfOk, IfSome, MatchOption, IsUtf8, option_map};
 ghost use Rattle.serde_json.specs.Read.{read as read_tree};
-ghost use Rattle.json_tree.specs.Seen.{seen};
+ghost use Rattle.json_tree.specs.Seen.{seen, ranged};
 
 use crate::number::is_in_range;
 use json::{Error, Reader, Scratch, Value};
@@ -28,7 +28,8 @@ fn tree_of<'a>(
     text: &'a str,
     scratch: &'a mut Scratch,
 ) -> Result<Option<Value<'a>>, AllocError>
-    ensures { IfOk result (λ o. option_map seen o ≡ read_tree text.now) }
+    ensures same { IfOk result (λ o. option_map seen o ≡ read_tree text.now) }
+    ensures ranged { IfOk result (λ o. IfSome o (λ v. ranged v ≡ true)) }
 {
     let mut reader = Reader::new(text, scratch)?;
     match Value::read(alloc, &mut reader, MAX_DEPTH) {
@@ -53,8 +54,9 @@ pub fn tree<'a>(
     bytes: &'a [u8],
     scratch: &'a mut Scratch,
 ) -> Result<Option<Value<'a>>, AllocError>
-    ensures { IfOk result (λ o. MatchOption o (IsUtf8 bytes.now → read_tree bytes.now ≡ None)
+    ensures same { IfOk result (λ o. MatchOption o (IsUtf8 bytes.now → read_tree bytes.now ≡ None)
         (λ v. IsUtf8 bytes.now × (read_tree bytes.now ≡ Some (seen v)))) }
+    ensures ranged { IfOk result (λ o. IfSome o (λ v. ranged v ≡ true)) }
 {
     match simdutf8::compat::from_utf8(bytes) {
         Ok(text) => tree_of(alloc, text, scratch),

@@ -1,16 +1,17 @@
 -- Bytes that stand in a JSON string as they are, and which texts have no others.
 use Rattle.std.proofs.Common.{mod-lt, pos, codes, decimal, ◌≡◌, ◌≢◌, ℕ, zero, suc, ◌+◌, ◌/◌, ◌%◌, ◌<◌, ◌≤◌, ◌==◌, Bool, true, false, ◌&&◌, not, nat_le, nat_lt, if◌then◌else◌, List, [], ◌∷◌, ◌++◌, length, get_or, drop, refl, sym, ap, ap₂, ◌∙◌, subst, IsUtf8, arith}
+use Rattle.std.specs.Char.{is_ascii_alphanumeric, is_ascii_uppercase, is_ascii_digit}
 use Rattle.std.specs.List.{list_all, prefix_len}
 use Rattle.std.specs.Fmt.{digit_glyph, digits_onto, digits}
 use Rattle.std.proofs.lemmas.Bool.{and_parts}
 use Rattle.std.proofs.lemmas.Bool.Decides.{nat_tests}
 use Rattle.std.proofs.lemmas.List.Folds.{list_all-append}
 use Rattle.std.proofs.lemmas.List.Sums.{prefix_len_passes}
-use Rattle.json.specs.Print.{escape_byte, escape, quoted}
+use Rattle.json.specs.Print.{escape_byte, escape}
 use Rattle.json.proofs.Printed.Strings.{escape_byte_plain}
 use Rattle.json.proofs.Printed.Utf8.{are_ascii, IsUtf8-are_ascii}
 use Rattle.jiff_core.proofs.CalendarLemmas.{days_in_month_bounds}
-use Rattle.upi_base.specs.Texts.{is_name_byte, is_psp_byte, is_psp, is_name, is_address, fits}
+use Rattle.upi_base.specs.Texts.{is_name_byte, is_psp_byte, is_psp, is_name, is_address, is_bank, is_account, is_two_digits, is_bank_code, is_ac_num, is_digits_text, fits}
 use Rattle.upi_base.specs.Money.{pair_text, paise_text}
 use Rattle.upi_base.specs.Time.{Civil, civil_from, date_text, clock_text, local_second, moment_text, max_moment}
 use Rattle.upi_msg.specs.Pieces.{is_bare}
@@ -165,7 +166,22 @@ clear_address most s e =
     let after : count + 1 ≡ suc count = omega arith in
     clear_around s count (λ k lt. clear_name_byte (get_or s k 0) (prefix_len_passes is_name_byte s k 0 lt)) (rw sign refl) (subst (λ (n : ℕ). are_clear (drop n s) ≡ true) after rest)
 
--- ---- the string of a clear text
+-- ---- letters and digits
 
-pub quoted_clear : (s : List ℕ) → are_clear s ≡ true → 34 ∷ (s ++ 34 ∷ []) ≡ quoted s
-quoted_clear s e = ap (λ (l : List ℕ). 34 ∷ (l ++ 34 ∷ [])) (sym (escape_clear s e))
+clear_upper : (c : ℕ) → is_ascii_uppercase c ≡ true → is_clear c ≡ true
+clear_upper c e = grind (arith, nat_tests)
+
+clear_letter : (c : ℕ) → is_ascii_alphanumeric c ≡ true → is_clear c ≡ true
+clear_letter c e = grind (arith, nat_tests)
+
+clear_ascii_digit : (c : ℕ) → is_ascii_digit c ≡ true → is_clear c ≡ true
+clear_ascii_digit c e = grind (arith, nat_tests)
+
+pub clear_bank : (s : List ℕ) → is_bank_code s ≡ true → are_clear s ≡ true
+clear_bank s e = clear_all is_ascii_uppercase clear_upper s (and_parts _ (list_all is_ascii_uppercase s) (and_parts _ (is_bank s) e).1).1
+
+pub clear_num : (s : List ℕ) → is_ac_num s ≡ true → are_clear s ≡ true
+clear_num s e = clear_all is_ascii_alphanumeric clear_letter s (and_parts _ (list_all is_ascii_alphanumeric s) (and_parts _ (is_account s) e).1).1
+
+pub clear_digits : (s : List ℕ) → is_digits_text s ≡ true → are_clear s ≡ true
+clear_digits s e = clear_all is_ascii_digit clear_ascii_digit s (and_parts _ (list_all is_ascii_digit s) (and_parts _ (is_two_digits s) e).1).1

@@ -1,5 +1,5 @@
 -- The parts of each written group, and that they make its text.
-use Rattle.std.proofs.Common.{Option, codes, option_map, decimal, ◌≡◌, ℕ, List, [], ◌∷◌, ◌++◌, refl, sym, ap, ◌∙◌, append_assoc}
+use Rattle.std.proofs.Common.{Option, Some, None, codes, option_map, decimal, ◌≡◌, ℕ, List, [], ◌∷◌, ◌++◌, refl, sym, ap, ◌∙◌, append_assoc}
 use Rattle.std.proofs.lemmas.List.Concat.{flat_map-append}
 use Rattle.json.specs.Print.{escape_byte, escape, quoted}
 use Rattle.serde_json.specs.Data.{Data, string, Members, member, no_members}
@@ -9,33 +9,34 @@ use Rattle.upi_base.specs.Time.{moment_text}
 use Rattle.upi_base.specs.declared.setup.AccountRef.{AccountRef}
 use Rattle.upi_base.specs.declared.message.Head.{Head}
 use Rattle.upi_base.specs.declared.code.Ver.{Ver}
+use Rattle.upi_base.specs.declared.code.Ver.TheVariants as ver
 use Rattle.upi_base.specs.declared.message.Extra.{Extra}
 use Rattle.upi_base.specs.declared.message.Chk.{Chk}
 use Rattle.upi_base.specs.declared.message.ConfResp.{ConfResp}
-use Rattle.upi_msg.specs.Tree.{maybe, only, head_tree, head_tree_of, amount_tree, account_tree, rules_tree, ver_text, mode_tree, purpose_tree, payer_tree, payee_tree, txn_tree, parties_tree, account_payees_tree, answer_payer_tree, resp_tree, outcome_tree, id_tree, answer_body, check_tree, confirmed_tree}
-use Rattle.upi_msg.specs.Pieces.{front_text, later_text}
+use Rattle.upi_msg.specs.Tree.{maybe, only, head_tree, head_tree_of, amount_tree, account_tree, rules_tree, mode_tree, purpose_tree, payer_tree, payee_tree, txn_tree, parties_tree, account_payees_tree, answer_payer_tree, resp_tree, outcome_tree, id_tree, answer_body, check_tree, confirmed_tree}
+use Rattle.upi_msg.specs.Pieces.{front_text, later_text, open_text, mode_text, purpose_text, ver_end}
 use Rattle.upi_msg.proofs.Pieces.{glue, front, later}
 
 abbrev pub head_parts : List ℕ → List ℕ → ℕ → Ver → List (List ℕ)
-head_parts msg org ts v = (codes "{\"msgId\":" ++ quoted msg) ∷ (codes ",\"orgId\":" ++ quoted org) ∷ (codes ",\"ts\":") ∷ (quoted (moment_text ts)) ∷ (codes ",\"ver\":" ++ quoted (ver_text v)) ∷ (codes "}") ∷ []
+head_parts msg org ts v = (codes "{\"msgId\":\"" ++ escape msg) ∷ (codes "\",\"orgId\":\"" ++ escape org) ∷ (codes "\",\"ts\":\"") ∷ (escape (moment_text ts)) ∷ (ver_end v) ∷ []
 
 abbrev pub amount_parts : ℕ → List (List ℕ)
-amount_parts v = (codes "{\"curr\":\"INR\",\"value\":") ∷ (quoted (paise_text v)) ∷ (codes "}") ∷ []
+amount_parts v = (codes "{\"curr\":\"INR\",\"value\":\"") ∷ (escape (paise_text v)) ∷ (codes "\"}") ∷ []
 
 abbrev pub account_parts : AccountRef → List (List ℕ)
-account_parts a = (codes "{\"Detail\":[{\"name\":\"IFSC\",\"value\":\"") ∷ (escape a.bank) ∷ (codes "0000000\"},{\"name\":\"ACNUM\",\"value\":" ++ quoted a.num) ∷ (codes "}],\"addrType\":\"ACCOUNT\"}") ∷ []
+account_parts a = (codes "{\"Detail\":[{\"name\":\"IFSC\",\"value\":\"" ++ escape a.bank) ∷ (codes "0000000\"},{\"name\":\"ACNUM\",\"value\":\"" ++ escape a.num) ∷ (codes "\"}],\"addrType\":\"ACCOUNT\"}") ∷ []
 
 abbrev pub rules_parts : ℕ → List (List ℕ)
-rules_parts n = (codes "\"Rules\":{\"Rule\":[{\"name\":\"EXPIREAFTER\",\"value\":" ++ quoted (decimal n)) ∷ (codes "}]},") ∷ []
+rules_parts n = (codes "\"Rules\":{\"Rule\":[{\"name\":\"EXPIREAFTER\",\"value\":\"" ++ escape (decimal n)) ∷ (codes "\"}]},") ∷ []
 
 abbrev pub payer_parts : Option AccountRef → ℕ → List ℕ → List (List ℕ)
-payer_parts ac v addr = (codes "{") ∷ (front_text (codes "Ac") (option_map account_tree ac)) ∷ (codes "\"Amount\":") ∷ (compact_text (amount_tree v)) ∷ (codes ",\"addr\":" ++ quoted addr) ∷ (codes "}") ∷ []
+payer_parts ac v addr = (codes "{") ∷ (front_text (codes "Ac") (option_map account_tree ac)) ∷ (codes "\"Amount\":{\"curr\":\"INR\",\"value\":\"") ∷ (escape (paise_text v)) ∷ (codes "\"},\"addr\":\"" ++ escape addr) ∷ (codes "\"}") ∷ []
 
 abbrev pub payee_parts : Option AccountRef → List ℕ → List (List ℕ)
-payee_parts ac addr = (codes "{") ∷ (front_text (codes "Ac") (option_map account_tree ac)) ∷ (codes "\"addr\":" ++ quoted addr) ∷ (codes "}") ∷ []
+payee_parts ac addr = (codes "{") ∷ (front_text (codes "Ac") (option_map account_tree ac)) ∷ (codes "\"addr\":\"" ++ escape addr) ∷ (codes "\"}") ∷ []
 
 abbrev pub txn_parts : Option ℕ → List ℕ → Option Extra → Option (List ℕ) → List ℕ → List (List ℕ)
-txn_parts expire id extra note word = (codes "{") ∷ (front_text (codes "Rules") (option_map rules_tree expire)) ∷ (codes "\"id\":" ++ quoted id) ∷ (later_text (codes "initiationMode") (option_map mode_tree extra)) ∷ (later_text (codes "note") (option_map string note)) ∷ (later_text (codes "purpose") (option_map purpose_tree extra)) ∷ (codes ",\"type\":" ++ quoted word) ∷ (codes "}") ∷ []
+txn_parts expire id extra note word = (codes "{") ∷ (front_text (codes "Rules") (option_map rules_tree expire)) ∷ (codes "\"id\":\"" ++ escape id) ∷ (open_text (codes "initiationMode") (option_map mode_text extra)) ∷ (open_text (codes "note") note) ∷ (open_text (codes "purpose") (option_map purpose_text extra)) ∷ (codes "\",\"type\":\"" ++ escape word) ∷ (codes "\"}") ∷ []
 
 abbrev pub parties_parts : List ℕ → Data → Data → Data → Data → List (List ℕ)
 parties_parts name head payee payer txn = (123 ∷ (quoted name ++ codes ":{\"Head\":")) ∷ (compact_text head) ∷ (codes ",\"Payees\":{\"Payee\":[") ∷ (compact_text payee) ∷ (codes "]},\"Payer\":") ∷ (compact_text payer) ∷ (codes ",\"Txn\":") ∷ (compact_text txn) ∷ (codes "}}") ∷ []
@@ -64,16 +65,29 @@ confirmed_parts k = (codes "{\"RespTxnConfirmation\":{\"Head\":") ∷ (compact_t
 abbrev pub foreign_parts : List ℕ → Head → List (List ℕ)
 foreign_parts name h = (codes "{" ++ quoted name) ∷ (codes ":{\"Head\":") ∷ (compact_text (head_tree h)) ∷ (codes "}}") ∷ []
 
+-- a quotation mark between two texts closes the first
+shut : (s t : List ℕ) → s ++ 34 ∷ t ≡ (s ++ 34 ∷ []) ++ t
+shut s t = sym (append_assoc s (34 ∷ []) t)
+
+-- the text of a head, joined otherwise
+head_joins : (m o t a b e : List ℕ) → m ++ ((34 ∷ a) ++ (o ++ ((34 ∷ b) ++ (t ++ 34 ∷ e)))) ≡ (m ++ 34 ∷ []) ++ (a ++ ((o ++ 34 ∷ []) ++ (b ++ ((t ++ 34 ∷ []) ++ e))))
+head_joins m o t a b e = simp append_assoc refl
+
+head_by : (msg org : List ℕ) (ts : ℕ) (e : List ℕ) → codes "{\"msgId\":\"" ++ (escape msg ++ (codes "\",\"orgId\":\"" ++ (escape org ++ (codes "\",\"ts\":\"" ++ (escape (moment_text ts) ++ 34 ∷ e)))))
+    ≡ codes "{\"msgId\":\"" ++ ((escape msg ++ 34 ∷ []) ++ (codes ",\"orgId\":\"" ++ ((escape org ++ 34 ∷ []) ++ (codes ",\"ts\":\"" ++ ((escape (moment_text ts) ++ 34 ∷ []) ++ e)))))
+head_by msg org ts e = ap (λ (l : List ℕ). codes "{\"msgId\":\"" ++ l) (head_joins (escape msg) (escape org) (escape (moment_text ts)) (codes ",\"orgId\":\"") (codes ",\"ts\":\"") e)
+
 pub head_text : (msg org : List ℕ) (ts : ℕ) (v : Ver) → glue (head_parts msg org ts v) ≡ compact_text (head_tree_of msg org ts v)
 unfolding escape_byte head_tree_of
-head_text msg org ts v = refl
+head_text msg org ts ver.One = head_by msg org ts (codes ",\"ver\":\"1.0\"}")
+head_text msg org ts ver.Two = head_by msg org ts (codes ",\"ver\":\"2.0\"}")
 
 pub amount_text : (v : ℕ) → glue (amount_parts v) ≡ compact_text (amount_tree v)
 unfolding escape_byte amount_tree
-amount_text v = refl
+amount_text v = ap (λ (l : List ℕ). codes "{\"curr\":\"INR\",\"value\":\"" ++ l) (shut (escape (paise_text v)) (codes "}"))
 
 -- the text of an account, joined otherwise
-account_joins : (b n m t : List ℕ) → b ++ ((48 ∷ 48 ∷ 48 ∷ 48 ∷ 48 ∷ 48 ∷ 48 ∷ 34 ∷ 125 ∷ m) ++ ((n ++ 34 ∷ []) ++ 125 ∷ 93 ∷ t))
+account_joins : (b n m t : List ℕ) → b ++ ((48 ∷ 48 ∷ 48 ∷ 48 ∷ 48 ∷ 48 ∷ 48 ∷ 34 ∷ 125 ∷ m) ++ (n ++ 34 ∷ 125 ∷ 93 ∷ t))
     ≡ ((((b ++ 48 ∷ 48 ∷ 48 ∷ 48 ∷ 48 ∷ 48 ∷ 48 ∷ []) ++ 34 ∷ []) ++ 125 ∷ []) ++ (m ++ (((n ++ 34 ∷ []) ++ 125 ∷ []) ++ 93 ∷ []))) ++ t
 account_joins b n m t = simp append_assoc refl
 
@@ -87,20 +101,50 @@ account_text a =
     ∙ ap (λ (l : List ℕ). before ++ ((((l ++ 34 ∷ []) ++ 125 ∷ []) ++ (between ++ (((escape a.num ++ 34 ∷ []) ++ 125 ∷ []) ++ 93 ∷ []))) ++ behind)) (sym (flat_map-append escape_byte a.bank (codes "0000000")))
 
 -- the text of rules, joined otherwise
-rules_joins : (e : List ℕ) → (e ++ 34 ∷ []) ++ 125 ∷ 93 ∷ 125 ∷ 44 ∷ [] ≡ ((((e ++ 34 ∷ []) ++ 125 ∷ []) ++ 93 ∷ []) ++ 125 ∷ []) ++ 44 ∷ []
+rules_joins : (e : List ℕ) → e ++ 34 ∷ 125 ∷ 93 ∷ 125 ∷ 44 ∷ [] ≡ ((((e ++ 34 ∷ []) ++ 125 ∷ []) ++ 93 ∷ []) ++ 125 ∷ []) ++ 44 ∷ []
 rules_joins e = simp append_assoc refl
 
 pub rules_text : (n : ℕ) → glue (rules_parts n) ≡ codes "\"Rules\":" ++ (compact_text (rules_tree n) ++ 44 ∷ [])
 unfolding escape_byte rules_tree
 rules_text n = ap (λ (l : List ℕ). codes "\"Rules\":{\"Rule\":[{\"name\":\"EXPIREAFTER\",\"value\":\"" ++ l) (rules_joins (escape (decimal n)))
 
+-- the text of a payer, joined otherwise
+payer_joins : (p d a : List ℕ) → p ++ ((34 ∷ 125 ∷ a) ++ (d ++ 34 ∷ 125 ∷ [])) ≡ ((p ++ 34 ∷ []) ++ 125 ∷ []) ++ (a ++ ((d ++ 34 ∷ []) ++ 125 ∷ []))
+payer_joins p d a = simp append_assoc refl
+
 pub payer_text : (ac : Option AccountRef) (v : ℕ) (addr : List ℕ) → glue (payer_parts ac v addr) ≡ compact_text (payer_tree ac v addr)
-unfolding escape_byte payer_tree
-payer_text ac v addr = ap (λ (l : List ℕ). 123 ∷ l) (sym (front (codes "Ac") (option_map account_tree ac) (codes "Amount") (amount_tree v) (member (codes "addr") (string addr) no_members)))
+unfolding escape_byte payer_tree amount_tree
+payer_text ac v addr =
+    ap (λ (l : List ℕ). 123 ∷ (front_text (codes "Ac") (option_map account_tree ac) ++ (codes "\"Amount\":{\"curr\":\"INR\",\"value\":\"" ++ l))) (payer_joins (escape (paise_text v)) (escape addr) (codes ",\"addr\":\""))
+    ∙ ap (λ (l : List ℕ). 123 ∷ l) (sym (front (codes "Ac") (option_map account_tree ac) (codes "Amount") (amount_tree v) (member (codes "addr") (string addr) no_members)))
 
 pub payee_text : (ac : Option AccountRef) (addr : List ℕ) → glue (payee_parts ac addr) ≡ compact_text (payee_tree ac addr)
 unfolding escape_byte payee_tree
-payee_text ac addr = ap (λ (l : List ℕ). 123 ∷ l) (sym (front (codes "Ac") (option_map account_tree ac) (codes "addr") (string addr) no_members))
+payee_text ac addr =
+    ap (λ (l : List ℕ). 123 ∷ (front_text (codes "Ac") (option_map account_tree ac) ++ (codes "\"addr\":\"" ++ l))) (shut (escape addr) (codes "}"))
+    ∙ ap (λ (l : List ℕ). 123 ∷ l) (sym (front (codes "Ac") (option_map account_tree ac) (codes "addr") (string addr) no_members))
+
+-- a text that isn't closed, and the quotation mark behind it
+opened : (k : List ℕ) (o : Option (List ℕ)) (t : List ℕ) → open_text k o ++ 34 ∷ t ≡ 34 ∷ (later_text k (option_map string o) ++ t)
+opened k None t = refl
+opened k (Some s) t = ap (λ (l : List ℕ). 34 ∷ 44 ∷ l) (opened_joins (quoted k) (escape s) t)
+  where
+    opened_joins : (q e t : List ℕ) → (q ++ 58 ∷ 34 ∷ e) ++ 34 ∷ t ≡ (q ++ 58 ∷ 34 ∷ (e ++ 34 ∷ [])) ++ t
+    opened_joins q e t = simp append_assoc refl
+
+modes : (e : Option Extra) → option_map string (option_map mode_text e) ≡ option_map mode_tree e
+modes None = refl
+modes (Some e) = refl
+
+purposes_of : (e : Option Extra) → option_map string (option_map purpose_text e) ≡ option_map purpose_tree e
+purposes_of None = refl
+purposes_of (Some e) = refl
+
+opened_mode : (e : Option Extra) (t : List ℕ) → open_text (codes "initiationMode") (option_map mode_text e) ++ 34 ∷ t ≡ 34 ∷ (later_text (codes "initiationMode") (option_map mode_tree e) ++ t)
+opened_mode e t = opened (codes "initiationMode") (option_map mode_text e) t ∙ ap (λ (o : Option Data). 34 ∷ (later_text (codes "initiationMode") o ++ t)) (modes e)
+
+opened_purpose : (e : Option Extra) (t : List ℕ) → open_text (codes "purpose") (option_map purpose_text e) ++ 34 ∷ t ≡ 34 ∷ (later_text (codes "purpose") (option_map purpose_tree e) ++ t)
+opened_purpose e t = opened (codes "purpose") (option_map purpose_text e) t ∙ ap (λ (o : Option Data). 34 ∷ (later_text (codes "purpose") o ++ t)) (purposes_of e)
 
 pub txn_text : (expire : Option ℕ) (id : List ℕ) (extra : Option Extra) (note : Option (List ℕ)) (word : List ℕ) → glue (txn_parts expire id extra note word) ≡ compact_text (txn_tree expire id extra note word)
 unfolding escape_byte txn_tree
@@ -110,7 +154,19 @@ txn_text expire id extra note word =
     let notes : Members = maybe (codes "note") (option_map string note) purposes in
     let rest : Members = maybe (codes "initiationMode") (option_map mode_tree extra) notes in
     let before : List ℕ = front_text (codes "Rules") (option_map rules_tree expire) in
-    ap (λ (l : List ℕ). 123 ∷ (before ++ (codes "\"id\":" ++ (quoted id ++ (later_text (codes "initiationMode") (option_map mode_tree extra) ++ (later_text (codes "note") (option_map string note) ++ l)))))) (sym (later (codes "purpose") (option_map purpose_tree extra) types))
+    let word_end : List ℕ = codes ",\"type\":\"" ++ ((escape word ++ 34 ∷ []) ++ 125 ∷ []) in
+    let purpose_end : List ℕ = later_text (codes "purpose") (option_map purpose_tree extra) ++ word_end in
+    let note_end : List ℕ = later_text (codes "note") (option_map string note) ++ purpose_end in
+    let mode_end : List ℕ = later_text (codes "initiationMode") (option_map mode_tree extra) ++ note_end in
+    let mode : List ℕ = open_text (codes "initiationMode") (option_map mode_text extra) in
+    let text : List ℕ = open_text (codes "note") note in
+    let purpose : List ℕ = open_text (codes "purpose") (option_map purpose_text extra) in
+    ap (λ (l : List ℕ). 123 ∷ (before ++ (codes "\"id\":\"" ++ (escape id ++ (mode ++ (text ++ (purpose ++ (codes "\",\"type\":\"" ++ l)))))))) (shut (escape word) (codes "}"))
+    ∙ ap (λ (l : List ℕ). 123 ∷ (before ++ (codes "\"id\":\"" ++ (escape id ++ (mode ++ (text ++ l)))))) (opened_purpose extra word_end)
+    ∙ ap (λ (l : List ℕ). 123 ∷ (before ++ (codes "\"id\":\"" ++ (escape id ++ (mode ++ l))))) (opened (codes "note") note purpose_end)
+    ∙ ap (λ (l : List ℕ). 123 ∷ (before ++ (codes "\"id\":\"" ++ (escape id ++ l)))) (opened_mode extra note_end)
+    ∙ ap (λ (l : List ℕ). 123 ∷ (before ++ (codes "\"id\":\"" ++ l))) (shut (escape id) mode_end)
+    ∙ ap (λ (l : List ℕ). 123 ∷ (before ++ (codes "\"id\":" ++ (quoted id ++ (later_text (codes "initiationMode") (option_map mode_tree extra) ++ (later_text (codes "note") (option_map string note) ++ l)))))) (sym (later (codes "purpose") (option_map purpose_tree extra) types))
     ∙ ap (λ (l : List ℕ). 123 ∷ (before ++ (codes "\"id\":" ++ (quoted id ++ (later_text (codes "initiationMode") (option_map mode_tree extra) ++ l))))) (sym (later (codes "note") (option_map string note) purposes))
     ∙ ap (λ (l : List ℕ). 123 ∷ (before ++ (codes "\"id\":" ++ (quoted id ++ l)))) (sym (later (codes "initiationMode") (option_map mode_tree extra) notes))
     ∙ ap (λ (l : List ℕ). 123 ∷ l) (sym (front (codes "Rules") (option_map rules_tree expire) (codes "id") (string id) rest))

@@ -1,6 +1,5 @@
 -- The trees of messages are texts alone, with the members of each object in order.
 use Rattle.std.proofs.Common.{◌≡◌, ◌≤◌, ℕ, suc, Bool, true, false, List, ◌++◌, codes, Option, Some, None, option_map, decimal, refl, arith}
-use Rattle.std.specs.Char.{is_ascii_alphanumeric, is_ascii_uppercase, is_ascii_digit}
 use Rattle.std.specs.List.{list_all}
 use Rattle.std.specs.Str.{is_utf8}
 use Rattle.std.proofs.lemmas.Bool.{and_parts}
@@ -12,7 +11,7 @@ use Rattle.upi_base.specs.Time.{moment_text, max_moment}
 use Rattle.upi_msg.specs.Types.{Kind, Ver, Extra, Head, AccountRef, Message, Api, Data}
 use Rattle.upi_msg.specs.Tree.{only, ver_text, kind_text, result_text, api_text, head_tree_of, head_tree, amount_tree, account_tree, rules_tree, payer_tree, payee_tree, txn_tree, parties_tree, answer_payer_tree, resp_tree, account_payees_tree, answer_body, check_tree, confirmed_tree, message_tree}
 use Rattle.upi_msg.specs.Typed.{IsTypedHead, IsTypedAccount, IsTypedAc, IsTypedNote, IsTypedExtra, IsTypedMessage}
-use Rattle.upi_msg.proofs.Clear.{is_clear, are_clear, utf8_clear, clear-append, clear_all, clear_name, clear_address, clear_paise, clear_moment, clear_decimal}
+use Rattle.upi_msg.proofs.Clear.{is_clear, are_clear, utf8_clear, clear-append, clear_bank, clear_num, clear_digits, clear_name, clear_address, clear_paise, clear_moment, clear_decimal}
 use Rattle.upi_msg.proofs.Wells.{well}
 
 -- ---- texts that are UTF-8
@@ -38,26 +37,14 @@ paise_utf8 v = clear_text (paise_text v) (clear_paise v)
 minutes_utf8 : (n : ℕ) → is_utf8 (decimal n) ≡ true
 minutes_utf8 n = clear_text (decimal n) (clear_decimal n)
 
-clear_upper : (c : ℕ) → is_ascii_uppercase c ≡ true → is_clear c ≡ true
-clear_upper c e = grind (arith, nat_tests)
-
-clear_letter : (c : ℕ) → is_ascii_alphanumeric c ≡ true → is_clear c ≡ true
-clear_letter c e = grind (arith, nat_tests)
-
-clear_digit : (c : ℕ) → is_ascii_digit c ≡ true → is_clear c ≡ true
-clear_digit c e = grind (arith, nat_tests)
-
-clear_bank : (s : List ℕ) → is_bank_code s ≡ true → are_clear s ≡ true
-clear_bank s e = clear_all is_ascii_uppercase clear_upper s (and_parts _ (list_all is_ascii_uppercase s) (and_parts _ (is_bank s) e).1).1
-
 ifsc_utf8 : (s : List ℕ) → is_bank_code s ≡ true → is_utf8 (s ++ codes "0000000") ≡ true
 ifsc_utf8 s e = clear_text (s ++ codes "0000000") (clear-append s (codes "0000000") (clear_bank s e) refl)
 
 num_utf8 : (s : List ℕ) → is_ac_num s ≡ true → is_utf8 s ≡ true
-num_utf8 s e = clear_text s (clear_all is_ascii_alphanumeric clear_letter s (and_parts _ (list_all is_ascii_alphanumeric s) (and_parts _ (is_account s) e).1).1)
+num_utf8 s e = clear_text s (clear_num s e)
 
 digits_utf8 : (s : List ℕ) → is_digits_text s ≡ true → is_utf8 s ≡ true
-digits_utf8 s e = clear_text s (clear_all is_ascii_digit clear_digit s (and_parts _ (list_all is_ascii_digit s) (and_parts _ (is_two_digits s) e).1).1)
+digits_utf8 s e = clear_text s (clear_digits s e)
 
 ver_utf8 : (v : Ver) → is_utf8 (ver_text v) ≡ true
 ver_utf8 Ver.One = clear_text (codes "1.0") refl

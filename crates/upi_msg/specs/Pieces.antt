@@ -1,8 +1,11 @@
 -- Parts of a written message: a member that may be absent, with the comma between it and the next.
 use Rattle.std.specs.Prelude.{ℕ, Bool, not, nat_le, ◌&&◌, ◌==◌, List, [], ◌∷◌, ◌++◌, codes, Option, Some, None}
-use Rattle.json.specs.Print.{quoted}
+use Rattle.json.specs.Print.{escape, quoted}
 use Rattle.serde_json.specs.Data.{Data}
 use Rattle.serde_json.specs.Written.{compact_text}
+use Rattle.upi_base.specs.declared.code.Ver.{Ver}
+use Rattle.upi_base.specs.declared.code.Ver.TheVariants as ver
+use Rattle.upi_base.specs.declared.message.Extra.{Extra}
 
 -- before the other members
 abbrev pub front_text : List ℕ → Option Data → List ℕ
@@ -13,6 +16,24 @@ front_text name (Some d) = quoted name ++ 58 ∷ (compact_text d ++ 44 ∷ [])
 abbrev pub later_text : List ℕ → Option Data → List ℕ
 later_text name None = []
 later_text name (Some d) = 44 ∷ (quoted name ++ 58 ∷ compact_text d)
+
+-- a text behind a text: it closes that one, and isn't closed itself
+abbrev pub open_text : List ℕ → Option (List ℕ) → List ℕ
+open_text name None = []
+open_text name (Some s) = 34 ∷ 44 ∷ (quoted name ++ 58 ∷ 34 ∷ escape s)
+
+-- the `initiationMode` of a payment of version 2.0
+abbrev pub mode_text : Extra → List ℕ
+mode_text e = e.mode
+
+-- the `purpose` of a payment of version 2.0
+abbrev pub purpose_text : Extra → List ℕ
+purpose_text e = e.purpose
+
+-- how a `Head` ends: the quotation mark behind its moment, and its version
+abbrev pub ver_end : Ver → List ℕ
+ver_end ver.One = codes "\",\"ver\":\"1.0\"}"
+ver_end ver.Two = codes "\",\"ver\":\"2.0\"}"
 
 -- how a message begins, up to its `Head`
 unfoldable pub opening_text : List ℕ → List ℕ

@@ -1,16 +1,17 @@
 //! How words of messages are written.
 ghost use Rattle.std.specs.Prelude.{◌≡◌};
+ghost use Rattle.upi_msg.specs.Pieces;
 ghost use Rattle.upi_msg.specs.Tree;
 
 use upi_base::{Api, Kind, Ver};
 
-/// The word of a version.
-pub(crate) fn ver_text(ver: Ver) -> &'static [u8]
-    ensures { result.now ≡ Tree.ver_text ver }
+/// How a `Head` ends behind its moment: the quotation mark that closes it, and the version.
+pub(crate) fn ver_end(ver: Ver) -> &'static [u8]
+    ensures { result.now ≡ Pieces.ver_end ver }
 {
     match ver {
-        Ver::One => b"1.0",
-        Ver::Two => b"2.0",
+        Ver::One => b"\",\"ver\":\"1.0\"}",
+        Ver::Two => b"\",\"ver\":\"2.0\"}",
     }
 }
 

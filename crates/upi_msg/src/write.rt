@@ -3,14 +3,14 @@ ghost use Rattle.std.specs.Prelude.{◌≡◌, ◌++◌, OnOk, OnErr, codes, str
 ghost use Rattle.serde_json.specs.Data.{string};
 ghost use Rattle.serde_json.specs.Written.{compact_text};
 ghost use Rattle.json.specs.Print.{escape, quoted};
-ghost use Rattle.upi_msg.specs.Tree.{only, api_text, mode_tree, purpose_tree, head_tree, head_tree_of, amount_tree, account_tree, rules_tree, account_payees_tree, payer_tree, payee_tree, txn_tree, pay_tree, answer_payer_tree, resp_tree, outcome_tree, answer_tree, check_tree, confirmed_tree, message_tree, message_text};
+ghost use Rattle.upi_msg.specs.Tree.{only, api_text, head_tree, head_tree_of, amount_tree, account_tree, rules_tree, account_payees_tree, payer_tree, payee_tree, txn_tree, pay_tree, answer_payer_tree, resp_tree, outcome_tree, answer_tree, check_tree, confirmed_tree, message_tree, message_text};
 ghost use Rattle.upi_base.specs.Words.{code_text};
 ghost use Rattle.upi_base.specs.Money.{paise_text};
 ghost use Rattle.upi_base.specs.Time.{moment_text};
-ghost use Rattle.upi_msg.specs.Pieces.{front_text, later_text};
+ghost use Rattle.upi_msg.specs.Pieces.{front_text, later_text, open_text, mode_text, purpose_text};
 
 use crate::quote::{push_escaped, push_quoted};
-use crate::words::{api_text, kind_text, result_text, ver_text};
+use crate::words::{api_text, kind_text, result_text, ver_end};
 use itoa::Buffer;
 use std::alloc::Global;
 use upi_base::{
@@ -19,7 +19,7 @@ use upi_base::{
 };
 
 /// Room for the text of most messages, in bytes.
-pub(crate) const WRITTEN: usize = 512;
+pub(crate) const WRITTEN: usize = 1_024;
 
 // Appends these bytes, and the string of a small text.
 pub(crate) fn push_text<R: Rule, const N: usize>(
@@ -40,37 +40,39 @@ pub(crate) fn push_member(out: &mut Vec<u8>, before: &[u8], text: &[u8]) -> Resu
     push_quoted(out, text)
 }
 
-// Appends these bytes, and the string of those, which need no escape.
-fn push_clear(out: &mut Vec<u8>, before: &[u8], text: &[u8]) -> Result<(), NoMemory>
-    requires { escape text.now ≡ text.now }
-    ensures { OnOk result (out.new.items ≡ out.old.items ++ (before.now ++ quoted text.now)) }
+// Appends these bytes, and what stands in a string for those.
+fn push_inside(out: &mut Vec<u8>, before: &[u8], text: &[u8]) -> Result<(), NoMemory>
+    ensures { OnOk result (out.new.items ≡ out.old.items ++ (before.now ++ escape text.now)) }
 {
     out.extend_from_slice(before)?;
-    out.push(b'"')?;
+    push_escaped(out, text)
+}
+
+// The same, where no byte needs an escape.
+fn push_plain(out: &mut Vec<u8>, before: &[u8], text: &[u8]) -> Result<(), NoMemory>
+    requires { escape text.now ≡ text.now }
+    ensures { OnOk result (out.new.items ≡ out.old.items ++ (before.now ++ escape text.now)) }
+{
+    out.extend_from_slice(before)?;
     out.extend_from_slice(text)?;
-    out.push(b'"')?;
     Ok(())
 }
 
-// Appends the string of a moment.
+// Appends what stands in a string for a moment.
 fn push_moment(out: &mut Vec<u8>, ts: Moment) -> Result<(), NoMemory>
-    ensures { OnOk result (out.new.items ≡ out.old.items ++ quoted (moment_text ts)) }
+    ensures { OnOk result (out.new.items ≡ out.old.items ++ escape (moment_text ts)) }
 {
     // The getter's clause says that the moment is in range.
     let _ = ts.get();
-    out.push(b'"')?;
     ts.write(out)?;
-    out.push(b'"')?;
     Ok(())
 }
 
-// Appends the string of a sum.
+// Appends what stands in a string for a sum.
 fn push_paise(out: &mut Vec<u8>, amount: Paise) -> Result<(), NoMemory>
-    ensures { OnOk result (out.new.items ≡ out.old.items ++ quoted (paise_text amount)) }
+    ensures { OnOk result (out.new.items ≡ out.old.items ++ escape (paise_text amount)) }
 {
-    out.push(b'"')?;
     amount.write(out)?;
-    out.push(b'"')?;
     Ok(())
 }
 
@@ -85,12 +87,11 @@ pub(crate) fn push_head_of(
     ensures { OnOk result (out.new.items
         ≡ out.old.items ++ compact_text (head_tree_of msg.now org.now ts ver)) }
 {
-    push_member(out, b"{\"msgId\":", msg)?;
-    push_member(out, b",\"orgId\":", org)?;
-    out.extend_from_slice(b",\"ts\":")?;
+    push_inside(out, b"{\"msgId\":\"", msg)?;
+    push_inside(out, b"\",\"orgId\":\"", org)?;
+    out.extend_from_slice(b"\",\"ts\":\"")?;
     push_moment(out, ts)?;
-    push_member(out, b",\"ver\":", ver_text(ver))?;
-    out.push(b'}')?;
+    out.extend_from_slice(ver_end(ver))?;
     Ok(())
 }
 
@@ -98,12 +99,11 @@ pub(crate) fn push_head_of(
 fn push_head(out: &mut Vec<u8>, head: &Head) -> Result<(), NoMemory>
     ensures { OnOk result (out.new.items ≡ out.old.items ++ compact_text (head_tree head.now)) }
 {
-    push_clear(out, b"{\"msgId\":", head.msg_id.bytes())?;
-    push_clear(out, b",\"orgId\":", head.org.bytes())?;
-    out.extend_from_slice(b",\"ts\":")?;
+    push_plain(out, b"{\"msgId\":\"", head.msg_id.bytes())?;
+    push_plain(out, b"\",\"orgId\":\"", head.org.bytes())?;
+    out.extend_from_slice(b"\",\"ts\":\"")?;
     push_moment(out, head.ts)?;
-    push_member(out, b",\"ver\":", ver_text(head.ver))?;
-    out.push(b'}')?;
+    out.extend_from_slice(ver_end(head.ver))?;
     Ok(())
 }
 
@@ -111,9 +111,9 @@ fn push_head(out: &mut Vec<u8>, head: &Head) -> Result<(), NoMemory>
 fn push_amount(out: &mut Vec<u8>, amount: Paise) -> Result<(), NoMemory>
     ensures { OnOk result (out.new.items ≡ out.old.items ++ compact_text (amount_tree amount)) }
 {
-    out.extend_from_slice(b"{\"curr\":\"INR\",\"value\":")?;
+    out.extend_from_slice(b"{\"curr\":\"INR\",\"value\":\"")?;
     push_paise(out, amount)?;
-    out.push(b'}')?;
+    out.extend_from_slice(b"\"}")?;
     Ok(())
 }
 
@@ -121,10 +121,17 @@ fn push_amount(out: &mut Vec<u8>, amount: Paise) -> Result<(), NoMemory>
 fn push_account(out: &mut Vec<u8>, ac: &AccountRef) -> Result<(), NoMemory>
     ensures { OnOk result (out.new.items ≡ out.old.items ++ compact_text (account_tree ac.now)) }
 {
-    out.extend_from_slice(b"{\"Detail\":[{\"name\":\"IFSC\",\"value\":\"")?;
-    push_escaped(out, ac.bank.bytes())?;
-    push_text(out, b"0000000\"},{\"name\":\"ACNUM\",\"value\":", &ac.num)?;
-    out.extend_from_slice(b"}],\"addrType\":\"ACCOUNT\"}")?;
+    push_plain(
+        out,
+        b"{\"Detail\":[{\"name\":\"IFSC\",\"value\":\"",
+        ac.bank.bytes(),
+    )?;
+    push_plain(
+        out,
+        b"0000000\"},{\"name\":\"ACNUM\",\"value\":\"",
+        ac.num.bytes(),
+    )?;
+    out.extend_from_slice(b"\"}],\"addrType\":\"ACCOUNT\"}")?;
     Ok(())
 }
 
@@ -149,23 +156,23 @@ fn push_rules_front(out: &mut Vec<u8>, expire: &Option<Minutes>) -> Result<(), N
     if let Some(minutes) = expire {
         let mut buffer = Buffer::new();
         let count = buffer.format(minutes.get()).as_bytes();
-        push_member(
+        push_plain(
             out,
-            b"\"Rules\":{\"Rule\":[{\"name\":\"EXPIREAFTER\",\"value\":",
+            b"\"Rules\":{\"Rule\":[{\"name\":\"EXPIREAFTER\",\"value\":\"",
             count,
         )?;
-        out.extend_from_slice(b"}]},")?;
+        out.extend_from_slice(b"\"}]},")?;
     }
     Ok(())
 }
 
-// Appends the note that a payment may have.
+// Appends the note that a payment may have, behind a text that isn't closed yet. So do the two
+// below.
 fn push_note(out: &mut Vec<u8>, note: &Option<Note>) -> Result<(), NoMemory>
-    ensures { OnOk result (out.new.items
-        ≡ out.old.items ++ later_text (codes "note") (option_map string note.now)) }
+    ensures { OnOk result (out.new.items ≡ out.old.items ++ open_text (codes "note") note.now) }
 {
     if let Some(note) = note {
-        push_text(out, b",\"note\":", note)?;
+        push_inside(out, b"\",\"note\":\"", note.bytes())?;
     }
     Ok(())
 }
@@ -173,10 +180,10 @@ fn push_note(out: &mut Vec<u8>, note: &Option<Note>) -> Result<(), NoMemory>
 // Appends the `initiationMode` of a payment of version 2.0.
 fn push_mode(out: &mut Vec<u8>, extra: &Option<Extra>) -> Result<(), NoMemory>
     ensures { OnOk result (out.new.items
-        ≡ out.old.items ++ later_text (codes "initiationMode") (option_map mode_tree extra.now)) }
+        ≡ out.old.items ++ open_text (codes "initiationMode") (option_map mode_text extra.now)) }
 {
     if let Some(extra) = extra {
-        push_text(out, b",\"initiationMode\":", &extra.mode)?;
+        push_plain(out, b"\",\"initiationMode\":\"", extra.mode.bytes())?;
     }
     Ok(())
 }
@@ -184,10 +191,10 @@ fn push_mode(out: &mut Vec<u8>, extra: &Option<Extra>) -> Result<(), NoMemory>
 // Appends the `purpose` of a payment of version 2.0.
 fn push_purpose(out: &mut Vec<u8>, extra: &Option<Extra>) -> Result<(), NoMemory>
     ensures { OnOk result (out.new.items
-        ≡ out.old.items ++ later_text (codes "purpose") (option_map purpose_tree extra.now)) }
+        ≡ out.old.items ++ open_text (codes "purpose") (option_map purpose_text extra.now)) }
 {
     if let Some(extra) = extra {
-        push_text(out, b",\"purpose\":", &extra.purpose)?;
+        push_plain(out, b"\",\"purpose\":\"", extra.purpose.bytes())?;
     }
     Ok(())
 }
@@ -204,10 +211,10 @@ pub(crate) fn push_payer(
 {
     out.push(b'{')?;
     push_ac_front(out, ac)?;
-    out.extend_from_slice(b"\"Amount\":")?;
-    push_amount(out, amount)?;
-    push_clear(out, b",\"addr\":", addr.bytes())?;
-    out.push(b'}')?;
+    out.extend_from_slice(b"\"Amount\":{\"curr\":\"INR\",\"value\":\"")?;
+    push_paise(out, amount)?;
+    push_plain(out, b"\"},\"addr\":\"", addr.bytes())?;
+    out.extend_from_slice(b"\"}")?;
     Ok(())
 }
 
@@ -222,8 +229,8 @@ pub(crate) fn push_payee(
 {
     out.push(b'{')?;
     push_ac_front(out, ac)?;
-    push_clear(out, b"\"addr\":", addr.bytes())?;
-    out.push(b'}')?;
+    push_plain(out, b"\"addr\":\"", addr.bytes())?;
+    out.extend_from_slice(b"\"}")?;
     Ok(())
 }
 
@@ -241,12 +248,12 @@ pub(crate) fn push_txn(
 {
     out.push(b'{')?;
     push_rules_front(out, expire)?;
-    push_clear(out, b"\"id\":", id.bytes())?;
+    push_plain(out, b"\"id\":\"", id.bytes())?;
     push_mode(out, extra)?;
     push_note(out, note)?;
     push_purpose(out, extra)?;
-    push_member(out, b",\"type\":", word)?;
-    out.push(b'}')?;
+    push_inside(out, b"\",\"type\":\"", word)?;
+    out.extend_from_slice(b"\"}")?;
     Ok(())
 }
 

@@ -8,10 +8,10 @@ pub returns-then-not-is_in_range : goal.returns-then-not-is_in_range
 returns-then-not-is_in_range c =
     let none : c.read.new.reader ≡ [] = search rules in
     let whole = ap (json.value 127) (sym c.in_ok-reader.ensures.ok) ∙ c.in-Ok.ensures.ok ∙ ap (λ ts. Some (value_view c.in-Ok.value, ts)) none in
-    sym (read_past c.args.text.now c.in-Ok.value whole (sym c.is_in_range.ensures ∙ c.if-not-is_in_range.true))
+    record { same = sym (read_past c.args.text.now c.in-Ok.value whole (sym c.is_in_range.ensures ∙ c.if-not-is_in_range.true)); ranged = tt }
 
 pub returns-else-not-is_in_range : goal.returns-else-not-is_in_range
 returns-else-not-is_in_range c =
     let none : c.read.new.reader ≡ [] = search rules in
     let whole = ap (json.value 127) (sym c.in_ok-reader.ensures.ok) ∙ c.in-Ok.ensures.ok ∙ ap (λ ts. Some (value_view c.in-Ok.value, ts)) none in
-    sym (read_whole c.args.text.now c.in-Ok.value whole (sym c.is_in_range.ensures ∙ c.if-not-is_in_range.false))
+    record { same = sym (read_whole c.args.text.now c.in-Ok.value whole (sym c.is_in_range.ensures ∙ c.if-not-is_in_range.false)); ranged = sym c.is_in_range.ensures ∙ c.if-not-is_in_range.false }

@@ -5,5 +5,5 @@ use Rattle.upi_msg.proofs.write.push_head_of.Goals as goal
 
 pub returns : goal.returns
 returns c =
-    grows c.args.out.now.items (head_parts c.args.msg.now c.args.org.now c.args.ts c.args.ver) _ c.push.new.self.items (head_text c.args.msg.now c.args.org.now c.args.ts c.args.ver)
-    (_, c.in_ok-push_member.ensures, (_, c.in_ok-push_member-2.ensures, (_, c.in_ok-extend_from_slice.ensures.items, (_, c.in_ok-push_moment.ensures, (_, (rw (← c.ver_text.ensures) c.in_ok-push_member-3.ensures), (_, c.in_ok-push.ensures.items, refl))))))
+    grows c.args.out.now.items (head_parts c.args.msg.now c.args.org.now c.args.ts c.args.ver) _ c.extend_from_slice-2.new.self.items (head_text c.args.msg.now c.args.org.now c.args.ts c.args.ver)
+    (_, c.in_ok-push_inside.ensures, (_, c.in_ok-push_inside-2.ensures, (_, c.in_ok-extend_from_slice.ensures.items, (_, c.in_ok-push_moment.ensures, (_, (rw (← c.ver_end.ensures) c.in_ok-extend_from_slice-2.ensures.items), refl)))))

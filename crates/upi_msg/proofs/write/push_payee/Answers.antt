@@ -5,10 +5,10 @@ use Rattle.upi_msg.proofs.Pieces.{grows}
 use Rattle.upi_msg.proofs.Parts.{payee_parts, payee_text}
 use Rattle.upi_msg.proofs.write.push_payee.Goals as goal
 
-pub push_clear-requires : goal.push_clear-requires
-push_clear-requires c = ap escape c.bytes.ensures.same ∙ escape_clear c.args.addr.now (clear_address 71 c.args.addr.now c.bytes.ensures.allowed) ∙ sym c.bytes.ensures.same
+pub push_plain-requires : goal.push_plain-requires
+push_plain-requires c = ap escape c.bytes.ensures.same ∙ escape_clear c.args.addr.now (clear_address 71 c.args.addr.now c.bytes.ensures.allowed) ∙ sym c.bytes.ensures.same
 
 pub returns : goal.returns
 returns c =
-    grows c.args.out.now.items (payee_parts c.args.ac.now c.args.addr.now) _ c.push-2.new.self.items (payee_text c.args.ac.now c.args.addr.now)
-    (_, c.in_ok-push.ensures.items, (_, c.in_ok-push_ac_front.ensures, (_, (rw (← c.bytes.ensures.same) c.in_ok-push_clear.ensures), (_, c.in_ok-push-2.ensures.items, refl))))
+    grows c.args.out.now.items (payee_parts c.args.ac.now c.args.addr.now) _ c.extend_from_slice.new.self.items (payee_text c.args.ac.now c.args.addr.now)
+    (_, c.in_ok-push.ensures.items, (_, c.in_ok-push_ac_front.ensures, (_, (rw (← c.bytes.ensures.same) c.in_ok-push_plain.ensures), (_, c.in_ok-extend_from_slice.ensures.items, refl))))

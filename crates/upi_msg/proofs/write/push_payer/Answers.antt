@@ -5,10 +5,10 @@ use Rattle.upi_msg.proofs.Pieces.{grows}
 use Rattle.upi_msg.proofs.Parts.{payer_parts, payer_text}
 use Rattle.upi_msg.proofs.write.push_payer.Goals as goal
 
-pub push_clear-requires : goal.push_clear-requires
-push_clear-requires c = ap escape c.bytes.ensures.same ∙ escape_clear c.args.addr.now (clear_address 71 c.args.addr.now c.bytes.ensures.allowed) ∙ sym c.bytes.ensures.same
+pub push_plain-requires : goal.push_plain-requires
+push_plain-requires c = ap escape c.bytes.ensures.same ∙ escape_clear c.args.addr.now (clear_address 71 c.args.addr.now c.bytes.ensures.allowed) ∙ sym c.bytes.ensures.same
 
 pub returns : goal.returns
 returns c =
-    grows c.args.out.now.items (payer_parts c.args.ac.now c.args.amount c.args.addr.now) _ c.push-2.new.self.items (payer_text c.args.ac.now c.args.amount c.args.addr.now)
-    (_, c.in_ok-push.ensures.items, (_, c.in_ok-push_ac_front.ensures, (_, c.in_ok-extend_from_slice.ensures.items, (_, c.in_ok-push_amount.ensures, (_, (rw (← c.bytes.ensures.same) c.in_ok-push_clear.ensures), (_, c.in_ok-push-2.ensures.items, refl))))))
+    grows c.args.out.now.items (payer_parts c.args.ac.now c.args.amount c.args.addr.now) _ c.extend_from_slice-2.new.self.items (payer_text c.args.ac.now c.args.amount c.args.addr.now)
+    (_, c.in_ok-push.ensures.items, (_, c.in_ok-push_ac_front.ensures, (_, c.in_ok-extend_from_slice.ensures.items, (_, c.in_ok-push_paise.ensures, (_, (rw (← c.bytes.ensures.same) c.in_ok-push_plain.ensures), (_, c.in_ok-extend_from_slice-2.ensures.items, refl))))))
