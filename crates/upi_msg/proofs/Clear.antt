@@ -14,7 +14,10 @@ use Rattle.jiff_core.proofs.CalendarLemmas.{days_in_month_bounds}
 use Rattle.upi_base.specs.Texts.{is_name_byte, is_psp_byte, is_psp, is_name, is_address, is_bank, is_account, is_two_digits, is_bank_code, is_ac_num, is_digits_text, fits}
 use Rattle.upi_base.specs.Money.{pair_text, paise_text}
 use Rattle.upi_base.specs.Time.{Civil, civil_from, date_text, clock_text, local_second, moment_text, max_moment}
+use Rattle.upi_base.specs.declared.code.Kind.{Kind}
+use Rattle.upi_base.specs.declared.code.Kind.TheVariants as kind
 use Rattle.upi_msg.specs.Pieces.{is_bare}
+use Rattle.upi_msg.specs.Tree.{kind_text}
 use Rattle.upi_base.proofs.Civils.{civil_nth, year_small}
 
 -- ASCII, no control, no quotation mark and no backslash
@@ -185,3 +188,10 @@ clear_num s e = clear_all is_ascii_alphanumeric clear_letter s (and_parts _ (lis
 
 pub clear_digits : (s : List ℕ) → is_digits_text s ≡ true → are_clear s ≡ true
 clear_digits s e = clear_all is_ascii_digit clear_ascii_digit s (and_parts _ (list_all is_ascii_digit s) (and_parts _ (is_two_digits s) e).1).1
+
+-- ---- the word of a kind
+
+pub clear_kind : (k : Kind) → escape (kind_text k) ≡ kind_text k
+unfolding escape_byte
+clear_kind kind.Pay = refl
+clear_kind kind.Collect = refl

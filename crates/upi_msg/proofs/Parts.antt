@@ -14,14 +14,11 @@ use Rattle.upi_base.specs.declared.message.Extra.{Extra}
 use Rattle.upi_base.specs.declared.message.Chk.{Chk}
 use Rattle.upi_base.specs.declared.message.ConfResp.{ConfResp}
 use Rattle.upi_msg.specs.Tree.{maybe, only, head_tree, head_tree_of, amount_tree, account_tree, rules_tree, mode_tree, purpose_tree, payer_tree, payee_tree, txn_tree, parties_tree, account_payees_tree, answer_payer_tree, resp_tree, outcome_tree, id_tree, answer_body, check_tree, confirmed_tree}
-use Rattle.upi_msg.specs.Pieces.{front_text, later_text, open_text, mode_text, purpose_text, ver_end}
+use Rattle.upi_msg.specs.Pieces.{front_text, later_text, open_text, mode_text, purpose_text, account_between, party_front, terms_text, ver_end}
 use Rattle.upi_msg.proofs.Pieces.{glue, front, later}
 
 abbrev pub head_parts : List ℕ → List ℕ → ℕ → Ver → List (List ℕ)
 head_parts msg org ts v = (codes "{\"msgId\":\"" ++ escape msg) ∷ (codes "\",\"orgId\":\"" ++ escape org) ∷ (codes "\",\"ts\":\"") ∷ (escape (moment_text ts)) ∷ (ver_end v) ∷ []
-
-abbrev pub amount_parts : ℕ → List (List ℕ)
-amount_parts v = (codes "{\"curr\":\"INR\",\"value\":\"") ∷ (escape (paise_text v)) ∷ (codes "\"}") ∷ []
 
 abbrev pub account_parts : AccountRef → List (List ℕ)
 account_parts a = (codes "{\"Detail\":[{\"name\":\"IFSC\",\"value\":\"" ++ escape a.bank) ∷ (codes "0000000\"},{\"name\":\"ACNUM\",\"value\":\"" ++ escape a.num) ∷ (codes "\"}],\"addrType\":\"ACCOUNT\"}") ∷ []
@@ -30,22 +27,25 @@ abbrev pub rules_parts : ℕ → List (List ℕ)
 rules_parts n = (codes "\"Rules\":{\"Rule\":[{\"name\":\"EXPIREAFTER\",\"value\":\"" ++ escape (decimal n)) ∷ (codes "\"}]},") ∷ []
 
 abbrev pub payer_parts : Option AccountRef → ℕ → List ℕ → List (List ℕ)
-payer_parts ac v addr = (codes "{") ∷ (front_text (codes "Ac") (option_map account_tree ac)) ∷ (codes "\"Amount\":{\"curr\":\"INR\",\"value\":\"") ∷ (escape (paise_text v)) ∷ (codes "\"},\"addr\":\"" ++ escape addr) ∷ (codes "\"}") ∷ []
+payer_parts ac v addr = (party_front ac (codes "{\"Amount\":{\"curr\":\"INR\",\"value\":\"") (codes "\"}],\"addrType\":\"ACCOUNT\"},\"Amount\":{\"curr\":\"INR\",\"value\":\"")) ∷ (escape (paise_text v)) ∷ (codes "\"},\"addr\":\"" ++ escape addr) ∷ (codes "\"}") ∷ []
 
 abbrev pub payee_parts : Option AccountRef → List ℕ → List (List ℕ)
-payee_parts ac addr = (codes "{") ∷ (front_text (codes "Ac") (option_map account_tree ac)) ∷ (codes "\"addr\":\"" ++ escape addr) ∷ (codes "\"}") ∷ []
+payee_parts ac addr = (party_front ac (codes "{\"addr\":\"") (codes "\"}],\"addrType\":\"ACCOUNT\"},\"addr\":\"")) ∷ (escape addr) ∷ (codes "\"}") ∷ []
 
 abbrev pub txn_parts : Option ℕ → List ℕ → Option Extra → Option (List ℕ) → List ℕ → List (List ℕ)
-txn_parts expire id extra note word = (codes "{") ∷ (front_text (codes "Rules") (option_map rules_tree expire)) ∷ (codes "\"id\":\"" ++ escape id) ∷ (open_text (codes "initiationMode") (option_map mode_text extra)) ∷ (open_text (codes "note") note) ∷ (open_text (codes "purpose") (option_map purpose_text extra)) ∷ (codes "\",\"type\":\"" ++ escape word) ∷ (codes "\"}") ∷ []
+txn_parts expire id extra note word = (terms_text expire id extra note) ∷ (codes "\",\"type\":\"" ++ escape word) ∷ (codes "\"}") ∷ []
+
+abbrev pub terms_parts : Option ℕ → List ℕ → Option Extra → Option (List ℕ) → List (List ℕ)
+terms_parts expire id extra note = (codes "{") ∷ (front_text (codes "Rules") (option_map rules_tree expire)) ∷ (codes "\"id\":\"" ++ escape id) ∷ (open_text (codes "initiationMode") (option_map mode_text extra)) ∷ (open_text (codes "note") note) ∷ (open_text (codes "purpose") (option_map purpose_text extra)) ∷ []
+
+abbrev pub between_parts : List ℕ → AccountRef → List ℕ → List (List ℕ)
+between_parts front a end = (front ++ escape a.bank) ∷ (codes "0000000\"},{\"name\":\"ACNUM\",\"value\":\"" ++ escape a.num) ∷ end ∷ []
 
 abbrev pub parties_parts : List ℕ → Data → Data → Data → Data → List (List ℕ)
 parties_parts name head payee payer txn = (123 ∷ (quoted name ++ codes ":{\"Head\":")) ∷ (compact_text head) ∷ (codes ",\"Payees\":{\"Payee\":[") ∷ (compact_text payee) ∷ (codes "]},\"Payer\":") ∷ (compact_text payer) ∷ (codes ",\"Txn\":") ∷ (compact_text txn) ∷ (codes "}}") ∷ []
 
-abbrev pub payees_parts : AccountRef → List (List ℕ)
-payees_parts a = (codes ",\"Payees\":{\"Payee\":[{\"Ac\":") ∷ (compact_text (account_tree a)) ∷ (codes "}]}") ∷ []
-
 abbrev pub answer_payer_parts : Option AccountRef → ℕ → List (List ℕ)
-answer_payer_parts ac v = (codes "{") ∷ (front_text (codes "Ac") (option_map account_tree ac)) ∷ (codes "\"Amount\":") ∷ (compact_text (amount_tree v)) ∷ (codes "}") ∷ []
+answer_payer_parts ac v = (party_front ac (codes "{\"Amount\":{\"curr\":\"INR\",\"value\":\"") (codes "\"}],\"addrType\":\"ACCOUNT\"},\"Amount\":{\"curr\":\"INR\",\"value\":\"")) ∷ (escape (paise_text v)) ∷ (codes "\"}}") ∷ []
 
 abbrev pub resp_parts : Option (List ℕ) → List ℕ → List ℕ → List (List ℕ)
 resp_parts code req result = (codes "{") ∷ (front_text (codes "errCode") (option_map string code)) ∷ (codes "\"reqMsgId\":" ++ quoted req) ∷ (codes ",\"result\":" ++ quoted result) ∷ (codes "}") ∷ []
@@ -82,10 +82,6 @@ unfolding escape_byte head_tree_of
 head_text msg org ts ver.One = head_by msg org ts (codes ",\"ver\":\"1.0\"}")
 head_text msg org ts ver.Two = head_by msg org ts (codes ",\"ver\":\"2.0\"}")
 
-pub amount_text : (v : ℕ) → glue (amount_parts v) ≡ compact_text (amount_tree v)
-unfolding escape_byte amount_tree
-amount_text v = ap (λ (l : List ℕ). codes "{\"curr\":\"INR\",\"value\":\"" ++ l) (shut (escape (paise_text v)) (codes "}"))
-
 -- the text of an account, joined otherwise
 account_joins : (b n m t : List ℕ) → b ++ ((48 ∷ 48 ∷ 48 ∷ 48 ∷ 48 ∷ 48 ∷ 48 ∷ 34 ∷ 125 ∷ m) ++ (n ++ 34 ∷ 125 ∷ 93 ∷ t))
     ≡ ((((b ++ 48 ∷ 48 ∷ 48 ∷ 48 ∷ 48 ∷ 48 ∷ 48 ∷ []) ++ 34 ∷ []) ++ 125 ∷ []) ++ (m ++ (((n ++ 34 ∷ []) ++ 125 ∷ []) ++ 93 ∷ []))) ++ t
@@ -99,6 +95,35 @@ account_text a =
     let behind : List ℕ = codes ",\"addrType\":\"ACCOUNT\"}" in
     ap (λ (l : List ℕ). before ++ l) (account_joins (escape a.bank) (escape a.num) between behind)
     ∙ ap (λ (l : List ℕ). before ++ ((((l ++ 34 ∷ []) ++ 125 ∷ []) ++ (between ++ (((escape a.num ++ 34 ∷ []) ++ 125 ∷ []) ++ 93 ∷ []))) ++ behind)) (sym (flat_map-append escape_byte a.bank (codes "0000000")))
+
+between_joins : (f b k n e : List ℕ) → (f ++ b) ++ ((k ++ n) ++ e) ≡ f ++ (b ++ (k ++ (n ++ e)))
+between_joins f b k n e = simp append_assoc refl
+
+pub between_text : (front : List ℕ) (a : AccountRef) (end : List ℕ) → glue (between_parts front a end) ≡ account_between front a end
+between_text front a end = between_joins front (escape a.bank) (codes "0000000\"},{\"name\":\"ACNUM\",\"value\":\"") (escape a.num) end
+
+around_joins : (f g b k n e t : List ℕ) → (f ++ g) ++ (b ++ (k ++ (n ++ (e ++ t)))) ≡ f ++ (((g ++ b) ++ ((k ++ n) ++ e)) ++ t)
+around_joins f g b k n e t = simp append_assoc refl
+
+-- an account between two texts is its tree's text between them
+around : (f t : List ℕ) (a : AccountRef) → account_between (f ++ codes "{\"Detail\":[{\"name\":\"IFSC\",\"value\":\"") a (codes "\"}],\"addrType\":\"ACCOUNT\"}" ++ t) ≡ f ++ (compact_text (account_tree a) ++ t)
+around f t a =
+    around_joins f (codes "{\"Detail\":[{\"name\":\"IFSC\",\"value\":\"") (escape a.bank) (codes "0000000\"},{\"name\":\"ACNUM\",\"value\":\"") (escape a.num) (codes "\"}],\"addrType\":\"ACCOUNT\"}") t
+    ∙ ap (λ (l : List ℕ). f ++ (l ++ t)) (account_text a)
+
+-- a party begins with its account, if it has one, and goes on
+party_text : (ac : Option AccountRef) (next : List ℕ) → party_front ac (123 ∷ next) (codes "\"}],\"addrType\":\"ACCOUNT\"}," ++ next) ≡ 123 ∷ (front_text (codes "Ac") (option_map account_tree ac) ++ next)
+unfolding escape_byte
+party_text None next = refl
+party_text (Some a) next =
+    around (codes "{\"Ac\":") (44 ∷ next) a
+    ∙ ap (λ (l : List ℕ). codes "{\"Ac\":" ++ l) (sym (append_assoc (compact_text (account_tree a)) (44 ∷ []) next))
+
+-- the same before more
+party_more : (ac : Option AccountRef) (next more : List ℕ) → party_front ac (123 ∷ next) (codes "\"}],\"addrType\":\"ACCOUNT\"}," ++ next) ++ more ≡ 123 ∷ (front_text (codes "Ac") (option_map account_tree ac) ++ (next ++ more))
+party_more ac next more =
+    ap (λ (l : List ℕ). l ++ more) (party_text ac next)
+    ∙ ap (λ (l : List ℕ). 123 ∷ l) (append_assoc (front_text (codes "Ac") (option_map account_tree ac)) next more)
 
 -- the text of rules, joined otherwise
 rules_joins : (e : List ℕ) → e ++ 34 ∷ 125 ∷ 93 ∷ 125 ∷ 44 ∷ [] ≡ ((((e ++ 34 ∷ []) ++ 125 ∷ []) ++ 93 ∷ []) ++ 125 ∷ []) ++ 44 ∷ []
@@ -115,13 +140,15 @@ payer_joins p d a = simp append_assoc refl
 pub payer_text : (ac : Option AccountRef) (v : ℕ) (addr : List ℕ) → glue (payer_parts ac v addr) ≡ compact_text (payer_tree ac v addr)
 unfolding escape_byte payer_tree amount_tree
 payer_text ac v addr =
-    ap (λ (l : List ℕ). 123 ∷ (front_text (codes "Ac") (option_map account_tree ac) ++ (codes "\"Amount\":{\"curr\":\"INR\",\"value\":\"" ++ l))) (payer_joins (escape (paise_text v)) (escape addr) (codes ",\"addr\":\""))
+    party_more ac (codes "\"Amount\":{\"curr\":\"INR\",\"value\":\"") (escape (paise_text v) ++ (codes "\"},\"addr\":\"" ++ (escape addr ++ codes "\"}")))
+    ∙ ap (λ (l : List ℕ). 123 ∷ (front_text (codes "Ac") (option_map account_tree ac) ++ (codes "\"Amount\":{\"curr\":\"INR\",\"value\":\"" ++ l))) (payer_joins (escape (paise_text v)) (escape addr) (codes ",\"addr\":\""))
     ∙ ap (λ (l : List ℕ). 123 ∷ l) (sym (front (codes "Ac") (option_map account_tree ac) (codes "Amount") (amount_tree v) (member (codes "addr") (string addr) no_members)))
 
 pub payee_text : (ac : Option AccountRef) (addr : List ℕ) → glue (payee_parts ac addr) ≡ compact_text (payee_tree ac addr)
 unfolding escape_byte payee_tree
 payee_text ac addr =
-    ap (λ (l : List ℕ). 123 ∷ (front_text (codes "Ac") (option_map account_tree ac) ++ (codes "\"addr\":\"" ++ l))) (shut (escape addr) (codes "}"))
+    party_more ac (codes "\"addr\":\"") (escape addr ++ codes "\"}")
+    ∙ ap (λ (l : List ℕ). 123 ∷ (front_text (codes "Ac") (option_map account_tree ac) ++ (codes "\"addr\":\"" ++ l))) (shut (escape addr) (codes "}"))
     ∙ ap (λ (l : List ℕ). 123 ∷ l) (sym (front (codes "Ac") (option_map account_tree ac) (codes "addr") (string addr) no_members))
 
 -- a text that isn't closed, and the quotation mark behind it
@@ -146,6 +173,9 @@ opened_mode e t = opened (codes "initiationMode") (option_map mode_text e) t ∙
 opened_purpose : (e : Option Extra) (t : List ℕ) → open_text (codes "purpose") (option_map purpose_text e) ++ 34 ∷ t ≡ 34 ∷ (later_text (codes "purpose") (option_map purpose_tree e) ++ t)
 opened_purpose e t = opened (codes "purpose") (option_map purpose_text e) t ∙ ap (λ (o : Option Data). 34 ∷ (later_text (codes "purpose") o ++ t)) (purposes_of e)
 
+terms_joins : (r k i m n p x : List ℕ) → (r ++ (k ++ (i ++ (m ++ (n ++ p))))) ++ x ≡ r ++ (k ++ (i ++ (m ++ (n ++ (p ++ x)))))
+terms_joins r k i m n p x = simp append_assoc refl
+
 pub txn_text : (expire : Option ℕ) (id : List ℕ) (extra : Option Extra) (note : Option (List ℕ)) (word : List ℕ) → glue (txn_parts expire id extra note word) ≡ compact_text (txn_tree expire id extra note word)
 unfolding escape_byte txn_tree
 txn_text expire id extra note word =
@@ -161,7 +191,8 @@ txn_text expire id extra note word =
     let mode : List ℕ = open_text (codes "initiationMode") (option_map mode_text extra) in
     let text : List ℕ = open_text (codes "note") note in
     let purpose : List ℕ = open_text (codes "purpose") (option_map purpose_text extra) in
-    ap (λ (l : List ℕ). 123 ∷ (before ++ (codes "\"id\":\"" ++ (escape id ++ (mode ++ (text ++ (purpose ++ (codes "\",\"type\":\"" ++ l)))))))) (shut (escape word) (codes "}"))
+    ap (λ (l : List ℕ). 123 ∷ l) (terms_joins before (codes "\"id\":\"") (escape id) mode text purpose (codes "\",\"type\":\"" ++ (escape word ++ codes "\"}")))
+    ∙ ap (λ (l : List ℕ). 123 ∷ (before ++ (codes "\"id\":\"" ++ (escape id ++ (mode ++ (text ++ (purpose ++ (codes "\",\"type\":\"" ++ l)))))))) (shut (escape word) (codes "}"))
     ∙ ap (λ (l : List ℕ). 123 ∷ (before ++ (codes "\"id\":\"" ++ (escape id ++ (mode ++ (text ++ l)))))) (opened_purpose extra word_end)
     ∙ ap (λ (l : List ℕ). 123 ∷ (before ++ (codes "\"id\":\"" ++ (escape id ++ (mode ++ l))))) (opened (codes "note") note purpose_end)
     ∙ ap (λ (l : List ℕ). 123 ∷ (before ++ (codes "\"id\":\"" ++ (escape id ++ l)))) (opened_mode extra note_end)
@@ -184,13 +215,21 @@ parties_text name head payee payer txn =
 payees_joins : (a : List ℕ) → a ++ 125 ∷ 93 ∷ 125 ∷ [] ≡ ((a ++ 125 ∷ []) ++ 93 ∷ []) ++ 125 ∷ []
 payees_joins a = simp append_assoc refl
 
-pub payees_text : (a : AccountRef) → glue (payees_parts a) ≡ 44 ∷ (quoted (codes "Payees") ++ 58 ∷ compact_text (account_payees_tree a))
+pub payees_text : (a : AccountRef) → account_between (codes ",\"Payees\":{\"Payee\":[{\"Ac\":{\"Detail\":[{\"name\":\"IFSC\",\"value\":\"") a (codes "\"}],\"addrType\":\"ACCOUNT\"}}]}") ≡ 44 ∷ (quoted (codes "Payees") ++ 58 ∷ compact_text (account_payees_tree a))
 unfolding escape_byte account_payees_tree
-payees_text a = ap (λ (l : List ℕ). codes ",\"Payees\":{\"Payee\":[{\"Ac\":" ++ l) (payees_joins (compact_text (account_tree a)))
+payees_text a =
+    around (codes ",\"Payees\":{\"Payee\":[{\"Ac\":") (codes "}]}") a
+    ∙ ap (λ (l : List ℕ). codes ",\"Payees\":{\"Payee\":[{\"Ac\":" ++ l) (payees_joins (compact_text (account_tree a)))
+
+answer_payer_joins : (p : List ℕ) → p ++ 34 ∷ 125 ∷ 125 ∷ [] ≡ ((p ++ 34 ∷ []) ++ 125 ∷ []) ++ 125 ∷ []
+answer_payer_joins p = simp append_assoc refl
 
 pub answer_payer_text : (ac : Option AccountRef) (v : ℕ) → glue (answer_payer_parts ac v) ≡ compact_text (answer_payer_tree ac v)
-unfolding escape_byte answer_payer_tree
-answer_payer_text ac v = ap (λ (l : List ℕ). 123 ∷ l) (sym (front (codes "Ac") (option_map account_tree ac) (codes "Amount") (amount_tree v) no_members))
+unfolding escape_byte answer_payer_tree amount_tree
+answer_payer_text ac v =
+    party_more ac (codes "\"Amount\":{\"curr\":\"INR\",\"value\":\"") (escape (paise_text v) ++ codes "\"}}")
+    ∙ ap (λ (l : List ℕ). 123 ∷ (front_text (codes "Ac") (option_map account_tree ac) ++ (codes "\"Amount\":{\"curr\":\"INR\",\"value\":\"" ++ l))) (answer_payer_joins (escape (paise_text v)))
+    ∙ ap (λ (l : List ℕ). 123 ∷ l) (sym (front (codes "Ac") (option_map account_tree ac) (codes "Amount") (amount_tree v) no_members))
 
 pub resp_text : (code : Option (List ℕ)) (req result : List ℕ) → glue (resp_parts code req result) ≡ compact_text (resp_tree code req result)
 unfolding escape_byte resp_tree

@@ -1,13 +1,13 @@
 //! The written form of a message: compact JSON, the members in byte order of their names.
-ghost use Rattle.std.specs.Prelude.{◌≡◌, ◌++◌, OnOk, OnErr, codes, string_bytes, option_map};
+ghost use Rattle.std.specs.Prelude.{◌≡◌, ◌++◌, [], OnOk, OnErr, codes, string_bytes, option_map};
 ghost use Rattle.serde_json.specs.Data.{string};
 ghost use Rattle.serde_json.specs.Written.{compact_text};
 ghost use Rattle.json.specs.Print.{escape, quoted};
-ghost use Rattle.upi_msg.specs.Tree.{only, api_text, head_tree, head_tree_of, amount_tree, account_tree, rules_tree, account_payees_tree, payer_tree, payee_tree, txn_tree, pay_tree, answer_payer_tree, resp_tree, outcome_tree, answer_tree, check_tree, confirmed_tree, message_tree, message_text};
+ghost use Rattle.upi_msg.specs.Tree.{only, api_text, head_tree, head_tree_of, rules_tree, account_payees_tree, payer_tree, payee_tree, txn_tree, payment_tree, pay_tree, answer_payer_tree, resp_tree, outcome_tree, answer_tree, check_tree, confirmed_tree, message_tree, message_text};
 ghost use Rattle.upi_base.specs.Words.{code_text};
 ghost use Rattle.upi_base.specs.Money.{paise_text};
 ghost use Rattle.upi_base.specs.Time.{moment_text};
-ghost use Rattle.upi_msg.specs.Pieces.{front_text, later_text, open_text, mode_text, purpose_text};
+ghost use Rattle.upi_msg.specs.Pieces.{front_text, later_text, open_text, mode_text, purpose_text, account_between, party_front, terms_text};
 
 use crate::quote::{push_escaped, push_quoted};
 use crate::words::{api_text, kind_text, result_text, ver_end};
@@ -107,43 +107,43 @@ fn push_head(out: &mut Vec<u8>, head: &Head) -> Result<(), NoMemory>
     Ok(())
 }
 
-// Appends an `Amount`.
-fn push_amount(out: &mut Vec<u8>, amount: Paise) -> Result<(), NoMemory>
-    ensures { OnOk result (out.new.items ≡ out.old.items ++ compact_text (amount_tree amount)) }
+// Appends an `Ac` with its name: `front` up to the bank's code, and `end` from behind the number on.
+fn push_account(
+    out: &mut Vec<u8>,
+    front: &[u8],
+    ac: &AccountRef,
+    end: &[u8],
+) -> Result<(), NoMemory>
+    ensures { OnOk result (out.new.items ≡ out.old.items ++ account_between front.now ac.now end.now) }
 {
-    out.extend_from_slice(b"{\"curr\":\"INR\",\"value\":\"")?;
-    push_paise(out, amount)?;
-    out.extend_from_slice(b"\"}")?;
-    Ok(())
-}
-
-// Appends an `Ac`.
-fn push_account(out: &mut Vec<u8>, ac: &AccountRef) -> Result<(), NoMemory>
-    ensures { OnOk result (out.new.items ≡ out.old.items ++ compact_text (account_tree ac.now)) }
-{
-    push_plain(
-        out,
-        b"{\"Detail\":[{\"name\":\"IFSC\",\"value\":\"",
-        ac.bank.bytes(),
-    )?;
+    push_plain(out, front, ac.bank.bytes())?;
     push_plain(
         out,
         b"0000000\"},{\"name\":\"ACNUM\",\"value\":\"",
         ac.num.bytes(),
     )?;
-    out.extend_from_slice(b"\"}],\"addrType\":\"ACCOUNT\"}")?;
+    out.extend_from_slice(end)?;
     Ok(())
 }
 
-// Appends the account that a party may have, before its other members.
-fn push_ac_front(out: &mut Vec<u8>, ac: &Option<AccountRef>) -> Result<(), NoMemory>
+// Appends how a party begins: these bytes, or the account that it has, and those.
+fn push_front(
+    out: &mut Vec<u8>,
+    ac: &Option<AccountRef>,
+    bare: &[u8],
+    end: &[u8],
+) -> Result<(), NoMemory>
     ensures { OnOk result (out.new.items
-        ≡ out.old.items ++ front_text (codes "Ac") (option_map account_tree ac.now)) }
+        ≡ out.old.items ++ party_front ac.now bare.now end.now) }
 {
-    if let Some(ac) = ac {
-        out.extend_from_slice(b"\"Ac\":")?;
-        push_account(out, ac)?;
-        out.push(b',')?;
+    match ac {
+        Some(ac) => push_account(
+            out,
+            b"{\"Ac\":{\"Detail\":[{\"name\":\"IFSC\",\"value\":\"",
+            ac,
+            end,
+        )?,
+        None => out.extend_from_slice(bare)?,
     }
     Ok(())
 }
@@ -209,9 +209,12 @@ pub(crate) fn push_payer(
     ensures { OnOk result (out.new.items
         ≡ out.old.items ++ compact_text (payer_tree ac.now amount addr.now)) }
 {
-    out.push(b'{')?;
-    push_ac_front(out, ac)?;
-    out.extend_from_slice(b"\"Amount\":{\"curr\":\"INR\",\"value\":\"")?;
+    push_front(
+        out,
+        ac,
+        b"{\"Amount\":{\"curr\":\"INR\",\"value\":\"",
+        b"\"}],\"addrType\":\"ACCOUNT\"},\"Amount\":{\"curr\":\"INR\",\"value\":\"",
+    )?;
     push_paise(out, amount)?;
     push_plain(out, b"\"},\"addr\":\"", addr.bytes())?;
     out.extend_from_slice(b"\"}")?;
@@ -227,10 +230,34 @@ pub(crate) fn push_payee(
     ensures { OnOk result (out.new.items
         ≡ out.old.items ++ compact_text (payee_tree ac.now addr.now)) }
 {
-    out.push(b'{')?;
-    push_ac_front(out, ac)?;
-    push_plain(out, b"\"addr\":\"", addr.bytes())?;
+    push_front(
+        out,
+        ac,
+        b"{\"addr\":\"",
+        b"\"}],\"addrType\":\"ACCOUNT\"},\"addr\":\"",
+    )?;
+    out.extend_from_slice(addr.bytes())?;
     out.extend_from_slice(b"\"}")?;
+    Ok(())
+}
+
+// Appends a `Txn` up to its type.
+fn push_terms(
+    out: &mut Vec<u8>,
+    expire: &Option<Minutes>,
+    id: &TxnId,
+    extra: &Option<Extra>,
+    note: &Option<Note>,
+) -> Result<(), NoMemory>
+    ensures { OnOk result (out.new.items
+        ≡ out.old.items ++ terms_text expire.now id.now extra.now note.now) }
+{
+    out.push(b'{')?;
+    push_rules_front(out, expire)?;
+    push_plain(out, b"\"id\":\"", id.bytes())?;
+    push_mode(out, extra)?;
+    push_note(out, note)?;
+    push_purpose(out, extra)?;
     Ok(())
 }
 
@@ -246,13 +273,24 @@ pub(crate) fn push_txn(
     ensures { OnOk result (out.new.items
         ≡ out.old.items ++ compact_text (txn_tree expire.now id.now extra.now note.now word.now)) }
 {
-    out.push(b'{')?;
-    push_rules_front(out, expire)?;
-    push_plain(out, b"\"id\":\"", id.bytes())?;
-    push_mode(out, extra)?;
-    push_note(out, note)?;
-    push_purpose(out, extra)?;
+    push_terms(out, expire, id, extra, note)?;
     push_inside(out, b"\",\"type\":\"", word)?;
+    out.extend_from_slice(b"\"}")?;
+    Ok(())
+}
+
+// Appends the `Txn` of a payment.
+fn push_payment(out: &mut Vec<u8>, request: &PayReq) -> Result<(), NoMemory>
+    ensures { OnOk result (out.new.items ≡ out.old.items ++ compact_text (payment_tree request.now)) }
+{
+    push_terms(
+        out,
+        &request.expire,
+        &request.txn,
+        &request.extra,
+        &request.note,
+    )?;
+    push_plain(out, b"\",\"type\":\"", kind_text(request.kind))?;
     out.extend_from_slice(b"\"}")?;
     Ok(())
 }
@@ -269,15 +307,7 @@ pub(crate) fn push_pay(out: &mut Vec<u8>, request: &PayReq) -> Result<(), NoMemo
     out.extend_from_slice(b"]},\"Payer\":")?;
     push_payer(out, &request.payer_ac, request.amount, &request.payer)?;
     out.extend_from_slice(b",\"Txn\":")?;
-    let word = kind_text(request.kind);
-    push_txn(
-        out,
-        &request.expire,
-        &request.txn,
-        &request.extra,
-        &request.note,
-        word,
-    )?;
+    push_payment(out, request)?;
     out.extend_from_slice(b"}}")?;
     Ok(())
 }
@@ -288,9 +318,12 @@ fn push_payees(out: &mut Vec<u8>, ac: &Option<AccountRef>) -> Result<(), NoMemor
         ≡ out.old.items ++ later_text (codes "Payees") (option_map account_payees_tree ac.now)) }
 {
     if let Some(ac) = ac {
-        out.extend_from_slice(b",\"Payees\":{\"Payee\":[{\"Ac\":")?;
-        push_account(out, ac)?;
-        out.extend_from_slice(b"}]}")?;
+        push_account(
+            out,
+            b",\"Payees\":{\"Payee\":[{\"Ac\":{\"Detail\":[{\"name\":\"IFSC\",\"value\":\"",
+            ac,
+            b"\"}],\"addrType\":\"ACCOUNT\"}}]}",
+        )?;
     }
     Ok(())
 }
@@ -304,11 +337,14 @@ pub(crate) fn push_answer_payer(
     ensures { OnOk result (out.new.items
         ≡ out.old.items ++ compact_text (answer_payer_tree ac.now amount)) }
 {
-    out.push(b'{')?;
-    push_ac_front(out, ac)?;
-    out.extend_from_slice(b"\"Amount\":")?;
-    push_amount(out, amount)?;
-    out.push(b'}')?;
+    push_front(
+        out,
+        ac,
+        b"{\"Amount\":{\"curr\":\"INR\",\"value\":\"",
+        b"\"}],\"addrType\":\"ACCOUNT\"},\"Amount\":{\"curr\":\"INR\",\"value\":\"",
+    )?;
+    push_paise(out, amount)?;
+    out.extend_from_slice(b"\"}}")?;
     Ok(())
 }
 
@@ -426,10 +462,23 @@ fn push_message(out: &mut Vec<u8>, message: &Message) -> Result<(), NoMemory>
     }
 }
 
-/// Appends the written form of a message: compact JSON, the members in byte order of their names,
-/// with exactly the members that the message keeps. It fails only for want of memory, and then
-/// leaves `out` as it was.
-pub fn text(alloc: Global, message: &Message, out: &mut Vec<u8>) -> Result<(), NoMemory>
+// Writes a message into a buffer that is empty, or nothing.
+fn write_first(out: &mut Vec<u8>, message: &Message) -> Result<(), NoMemory>
+    ensures ok { OnOk result (out.new.items ≡ message_text message.now) }
+    ensures err { OnErr result (out.new.items ≡ []) }
+{
+    out.clear();
+    match push_message(out, message) {
+        Ok(()) => Ok(()),
+        Err(error) => {
+            out.clear();
+            Err(error)
+        }
+    }
+}
+
+// Appends a message to a buffer, or nothing.
+fn append(alloc: Global, message: &Message, out: &mut Vec<u8>) -> Result<(), NoMemory>
     ensures ok { OnOk result (out.new.items ≡ out.old.items ++ message_text message.now) }
     ensures err { OnErr result (out.new.items ≡ out.old.items) }
 {
@@ -437,4 +486,18 @@ pub fn text(alloc: Global, message: &Message, out: &mut Vec<u8>) -> Result<(), N
     push_message(&mut written, message)?;
     out.extend_from_slice(&written)?;
     Ok(())
+}
+
+/// Appends the written form of a message: compact JSON, the members in byte order of their names,
+/// with exactly the members that the message keeps. It fails only for want of memory, and then
+/// leaves `out` as it was.
+pub fn text(alloc: Global, message: &Message, out: &mut Vec<u8>) -> Result<(), NoMemory>
+    ensures ok { OnOk result (out.new.items ≡ out.old.items ++ message_text message.now) }
+    ensures err { OnErr result (out.new.items ≡ out.old.items) }
+{
+    if out.is_empty() {
+        write_first(out, message)
+    } else {
+        append(alloc, message, out)
+    }
 }

@@ -5,5 +5,5 @@ use Rattle.upi_msg.proofs.write.push_answer_payer.Goals as goal
 
 pub returns : goal.returns
 returns c =
-    grows c.args.out.now.items (answer_payer_parts c.args.ac.now c.args.amount) _ c.push-2.new.self.items (answer_payer_text c.args.ac.now c.args.amount)
-    (_, c.in_ok-push.ensures.items, (_, c.in_ok-push_ac_front.ensures, (_, c.in_ok-extend_from_slice.ensures.items, (_, c.in_ok-push_amount.ensures, (_, c.in_ok-push-2.ensures.items, refl)))))
+    grows c.args.out.now.items (answer_payer_parts c.args.ac.now c.args.amount) _ c.extend_from_slice.new.self.items (answer_payer_text c.args.ac.now c.args.amount)
+    (_, c.in_ok-push_front.ensures, (_, c.in_ok-push_paise.ensures, (_, c.in_ok-extend_from_slice.ensures.items, refl)))

@@ -10,4 +10,4 @@ unfolding escape_byte
 returns c =
     let r = c.args.request.now in
     grows c.args.out.now.items (parties_parts (codes "ReqPay") (head_tree r.head) (payee_tree r.payee_ac r.payee) (payer_tree r.payer_ac r.amount r.payer) (payment_tree r)) _ c.extend_from_slice-5.new.self.items (parties_text (codes "ReqPay") (head_tree r.head) (payee_tree r.payee_ac r.payee) (payer_tree r.payer_ac r.amount r.payer) (payment_tree r))
-    (_, c.in_ok-extend_from_slice.ensures.items, (_, c.in_ok-push_head.ensures, (_, c.in_ok-extend_from_slice-2.ensures.items, (_, c.in_ok-push_payee.ensures, (_, c.in_ok-extend_from_slice-3.ensures.items, (_, c.in_ok-push_payer.ensures, (_, c.in_ok-extend_from_slice-4.ensures.items, (_, (rw (← c.kind_text-word.ensures) c.in_ok-push_txn.ensures), (_, c.in_ok-extend_from_slice-5.ensures.items, refl)))))))))
+    (_, c.in_ok-extend_from_slice.ensures.items, (_, c.in_ok-push_head.ensures, (_, c.in_ok-extend_from_slice-2.ensures.items, (_, c.in_ok-push_payee.ensures, (_, c.in_ok-extend_from_slice-3.ensures.items, (_, c.in_ok-push_payer.ensures, (_, c.in_ok-extend_from_slice-4.ensures.items, (_, c.in_ok-push_payment.ensures, (_, c.in_ok-extend_from_slice-5.ensures.items, refl)))))))))

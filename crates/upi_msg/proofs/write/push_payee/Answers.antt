@@ -1,14 +1,13 @@
-use Rattle.std.proofs.Common.{ap, sym, ◌∙◌, refl}
+use Rattle.std.proofs.Common.{◌≡◌, List, ℕ, ◌++◌, ap, sym, ◌∙◌, refl}
 use Rattle.json.specs.Print.{escape}
 use Rattle.upi_msg.proofs.Clear.{escape_clear, clear_address}
 use Rattle.upi_msg.proofs.Pieces.{grows}
 use Rattle.upi_msg.proofs.Parts.{payee_parts, payee_text}
 use Rattle.upi_msg.proofs.write.push_payee.Goals as goal
 
-pub push_plain-requires : goal.push_plain-requires
-push_plain-requires c = ap escape c.bytes.ensures.same ∙ escape_clear c.args.addr.now (clear_address 71 c.args.addr.now c.bytes.ensures.allowed) ∙ sym c.bytes.ensures.same
-
 pub returns : goal.returns
 returns c =
-    grows c.args.out.now.items (payee_parts c.args.ac.now c.args.addr.now) _ c.extend_from_slice.new.self.items (payee_text c.args.ac.now c.args.addr.now)
-    (_, c.in_ok-push.ensures.items, (_, c.in_ok-push_ac_front.ensures, (_, (rw (← c.bytes.ensures.same) c.in_ok-push_plain.ensures), (_, c.in_ok-extend_from_slice.ensures.items, refl))))
+    let addr : List ℕ = c.args.addr.now in
+    let clear : escape addr ≡ addr = escape_clear addr (clear_address 71 addr c.bytes.ensures.allowed) in
+    grows c.args.out.now.items (payee_parts c.args.ac.now addr) _ c.extend_from_slice-2.new.self.items (payee_text c.args.ac.now addr)
+    (_, c.in_ok-push_front.ensures, (c.extend_from_slice.new.self.items, c.in_ok-extend_from_slice.ensures.items ∙ ap (λ (l : List ℕ). c.push_front.new.out.items ++ l) (c.bytes.ensures.same ∙ sym clear), (_, c.in_ok-extend_from_slice-2.ensures.items, refl)))

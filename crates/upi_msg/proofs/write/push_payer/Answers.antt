@@ -10,5 +10,5 @@ push_plain-requires c = ap escape c.bytes.ensures.same ∙ escape_clear c.args.a
 
 pub returns : goal.returns
 returns c =
-    grows c.args.out.now.items (payer_parts c.args.ac.now c.args.amount c.args.addr.now) _ c.extend_from_slice-2.new.self.items (payer_text c.args.ac.now c.args.amount c.args.addr.now)
-    (_, c.in_ok-push.ensures.items, (_, c.in_ok-push_ac_front.ensures, (_, c.in_ok-extend_from_slice.ensures.items, (_, c.in_ok-push_paise.ensures, (_, (rw (← c.bytes.ensures.same) c.in_ok-push_plain.ensures), (_, c.in_ok-extend_from_slice-2.ensures.items, refl))))))
+    grows c.args.out.now.items (payer_parts c.args.ac.now c.args.amount c.args.addr.now) _ c.extend_from_slice.new.self.items (payer_text c.args.ac.now c.args.amount c.args.addr.now)
+    (_, c.in_ok-push_front.ensures, (_, c.in_ok-push_paise.ensures, (_, (rw (← c.bytes.ensures.same) c.in_ok-push_plain.ensures), (_, c.in_ok-extend_from_slice.ensures.items, refl))))

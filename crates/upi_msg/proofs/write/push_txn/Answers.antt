@@ -1,14 +1,9 @@
-use Rattle.std.proofs.Common.{ap, sym, ◌∙◌, refl}
-use Rattle.json.specs.Print.{escape}
-use Rattle.upi_msg.proofs.Clear.{escape_clear, clear_name}
+use Rattle.std.proofs.Common.{refl}
 use Rattle.upi_msg.proofs.Pieces.{grows}
 use Rattle.upi_msg.proofs.Parts.{txn_parts, txn_text}
 use Rattle.upi_msg.proofs.write.push_txn.Goals as goal
 
-pub push_plain-requires : goal.push_plain-requires
-push_plain-requires c = ap escape c.bytes.ensures.same ∙ escape_clear c.args.id.now (clear_name 35 c.args.id.now c.bytes.ensures.allowed) ∙ sym c.bytes.ensures.same
-
 pub returns : goal.returns
 returns c =
     grows c.args.out.now.items (txn_parts c.args.expire.now c.args.id.now c.args.extra.now c.args.note.now c.args.word.now) _ c.extend_from_slice.new.self.items (txn_text c.args.expire.now c.args.id.now c.args.extra.now c.args.note.now c.args.word.now)
-    (_, c.in_ok-push.ensures.items, (_, c.in_ok-push_rules_front.ensures, (_, (rw (← c.bytes.ensures.same) c.in_ok-push_plain.ensures), (_, c.in_ok-push_mode.ensures, (_, c.in_ok-push_note.ensures, (_, c.in_ok-push_purpose.ensures, (_, c.in_ok-push_inside.ensures, (_, c.in_ok-extend_from_slice.ensures.items, refl))))))))
+    (_, c.in_ok-push_terms.ensures, (_, c.in_ok-push_inside.ensures, (_, c.in_ok-extend_from_slice.ensures.items, refl)))
