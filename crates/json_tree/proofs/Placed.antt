@@ -1,5 +1,5 @@
 -- The value that tokens begin with is the one that was read, and what is found in it.
-use Rattle.std.proofs.Common.{◌≡◌, ◌≢◌, ℕ, suc, ◌+◌, ◌-◌, ◌<◌, ◌≤◌, max, List, [], ◌∷◌, ◌++◌, length, Bool, true, false, true≢false, ◌&&◌, nat_le, nat_lt, is_some, if◌then◌else◌, Option, Some, None, IsSome, option_map, option_and_then, MatchOption, Result, Ok, Err, IfOk, refl, sym, ap, ◌∙◌, subst, arith, append_assoc, append-nil, length-append}
+use Rattle.std.proofs.Common.{◌≡◌, ◌≢◌, ℕ, zero, suc, ◌+◌, ◌-◌, ◌<◌, ◌≤◌, max, List, [], ◌∷◌, ◌++◌, length, Bool, true, false, true≢false, ◌&&◌, nat_le, nat_lt, is_some, if◌then◌else◌, Option, Some, None, IsSome, IfNone, option_map, option_and_then, MatchOption, Result, Ok, Err, IfOk, refl, sym, ap, ◌∙◌, subst, arith, append_assoc, append-nil, length-append}
 use Rattle.std.proofs.lemmas.Bool.Decides.{nat_tests}
 use Rattle.json.specs.Token.{Token}
 use Rattle.json.specs.Token as token
@@ -21,7 +21,7 @@ use Rattle.serde_json.specs.Find.{get, as_str, as_array, as_object}
 use Rattle.serde_json.specs.Read.{number_of}
 use Rattle.serde_json.specs.Read as serde
 use Rattle.json_tree.specs.Seen.{data_of, items_of, members_of, in_range, items_in_range, members_in_range}
-use Rattle.json_tree.specs.Placed.{value_or_null, placed, HasFirst, items_or_none, placed_items, is_fit, after_token}
+use Rattle.json_tree.specs.Placed.{value_or_null, placed, HasFirst, HasInner, items_or_none, placed_items, is_fit, after_token}
 use Rattle.json_tree.proofs.Seen.{if_so, of_json-seen, get-data_of, as_str-data_of, listed}
 
 -- ---- the value that tokens begin with
@@ -125,6 +125,94 @@ in_items (json.item j js) ts h = go (λ us k. in_items js us k) (after_end_array
         let inner : InItems f.2 js = subst (InItems f.2) (sym (items_tail j f.1 js f.3 same)) f.6 in
         let more = again f.2 inner in
         (more.0, front ∙ ap (λ (i : json.Json). json_tokens i ++ f.2) (sym (items_head j f.1 js f.3 same)) ∙ ap (λ (l : List Token). json_tokens j ++ l) more.1 ∙ sym (append_assoc (json_tokens j) (items_tokens js) more.0))
+
+-- ---- items that are read again
+
+not_end : (j : json.Json) (rest : List Token) → after_end_array (json_tokens j ++ rest) ≡ None
+not_end json.null rest = refl
+not_end (json.boolean b) rest = refl
+not_end (json.number s) rest = refl
+not_end (json.string s) rest = refl
+not_end (json.array js) rest = refl
+not_end (json.object ms) rest = refl
+
+some_token : (j : json.Json) → 0 < length (json_tokens j)
+some_token json.null = omega arith
+some_token (json.boolean b) = omega arith
+some_token (json.number s) = omega arith
+some_token (json.string s) = omega arith
+some_token (json.array js) = omega arith
+some_token (json.object ms) = omega arith
+
+items_again : (js : json.Items) (d n : ℕ) (rest : List Token) → items_depth js ≤ d → length (items_tokens js) ≤ n → json.items (json.value d) n (items_tokens js ++ rest) ≡ Some (js, rest)
+unfolding json.items
+items_again json.no_items d zero rest h turns = absurd (omega arith)
+items_again json.no_items d (suc n) rest h turns = refl
+items_again (json.item j js) d zero rest h turns = absurd (omega (arith, some_token j, length-append (json_tokens j) (items_tokens js)))
+items_again (json.item j js) d (suc n) rest h turns =
+    let after : List Token = items_tokens js ++ rest in
+    ap (json.items (json.value d) (suc n)) (append_assoc (json_tokens j) (items_tokens js) rest)
+    ∙ ap (items_step (json.value d) (json.items (json.value d) n) (json_tokens j ++ after)) (not_end j after)
+    ∙ ap (option_and_then (λ p. parse_map (json.item p.0) (json.items (json.value d) n p.1))) (value-json_tokens j d after (omega arith))
+    ∙ ap (parse_map (json.item j)) (items_again js d n rest (omega arith) (omega (arith, some_token j, length-append (json_tokens j) (items_tokens js))))
+
+first_items : (ts : List Token) (js : json.Items) (h : InItems ts js) → json.items (json.value (length ts)) (length ts) ts ≡ Some (js, (in_items js ts h).0)
+first_items ts js h =
+    let back = in_items js ts h in
+    let long : length ts ≡ length (items_tokens js ++ back.0) = ap length back.1 in
+    let shallow : items_depth js ≤ length ts = omega (arith, items_length js, length-append (items_tokens js) back.0, long) in
+    let turns : length (items_tokens js) ≤ length ts = omega (arith, length-append (items_tokens js) back.0, long) in
+    ap (json.items (json.value (length ts)) (length ts)) back.1 ∙ items_again js (length ts) (length ts) back.0 shallow turns
+
+pub placed_items_are : (ts : List Token) (js : json.Items) → InItems ts js → placed_items ts ≡ items_of js
+unfolding placed_items
+placed_items_are ts js h = ap (λ o. items_of (items_or_none o)) (first_items ts js h)
+
+pub has_inner : (ts : List Token) (js : json.Items) → InItems ts js → HasInner ts
+has_inner ts js h = ap is_some (first_items ts js h)
+
+pub inner : (ts : List Token) → HasInner ts → (js : json.Items) × InItems ts js
+inner ts h = go (json.items (json.value (length ts)) (length ts) ts) refl h
+  where
+    go : (o : Option (json.Items × List Token)) → json.items (json.value (length ts)) (length ts) ts ≡ o → IsSome o → (js : json.Items) × InItems ts js
+    go None e k = absurd (true≢false (sym k))
+    go (Some p) e k = (p.0, (length ts, length ts, p.1, e))
+
+-- the next item, where there is one
+pub next_none : (old new : List Token) (h : HasInner old) → NextItem old None new → placed_items old ≡ no_items
+next_none old new h f =
+    let i = inner old h in
+    placed_items_are old i.0 i.1 ∙ ap items_of (f i.0 i.1)
+
+pub next_some : (old new at : List Token) (h : HasInner old) → NextItem old (Some at) new → (placed_items old ≡ item (placed at) (placed_items new)) × (HasFirst at × HasInner new)
+next_some old new at h f =
+    let i = inner old h in
+    let p = f i.0 i.1 in (
+      placed_items_are old i.0 i.1 ∙ ap items_of p.2 ∙ sym (λ k. item (placed_is at p.0 p.3 k) (placed_items_are new p.1 p.4 k)),
+      (has_first at (p.0, p.3), has_inner new p.1 p.4),
+    )
+
+-- what is left has its bracket too
+pub next_inner : (old new : List Token) (r : Option (List Token)) → HasInner old → NextItem old r new → IfNone r (new ≡ old) → HasInner new
+next_inner old new None h f stays = subst HasInner (sym stays) h
+next_inner old new (Some at) h f stays = (next_some old new at h f).1.1
+
+-- a list that was found
+list_found : (ts : List Token) (h : HasValue ts) (r : Option (List Token)) → ((j : json.Json) → BeginsWith ts j → MatchOption r (found.as_array j ≡ None) (λ us. (js : json.Items) × (j ≡ json.array js) × InItems us js)) → option_map placed_items r ≡ as_array (placed ts)
+list_found ts h r f = go r (f h.0 h.1)
+  where
+    go : (o : Option (List Token)) → MatchOption o (found.as_array h.0 ≡ None) (λ us. (js : json.Items) × (h.0 ≡ json.array js) × InItems us js) → option_map placed_items o ≡ as_array (placed ts)
+    go None e = sym (ap as_array (placed_is ts h.0 h.1) ∙ sym (listed h.0) ∙ ap (option_map items_of) e)
+    go (Some us) p = ap Some (placed_items_are us p.0 p.2) ∙ sym (ap as_array (placed_is ts h.0 h.1) ∙ ap (λ i. as_array (data_of i)) p.1)
+
+pub placed_list : (ts : List Token) → HasFirst ts → (r : Option (List Token)) → ((j : json.Json) → BeginsWith ts j → MatchOption r (found.as_array j ≡ None) (λ us. (js : json.Items) × (j ≡ json.array js) × InItems us js)) → option_map placed_items r ≡ as_array (placed ts)
+placed_list ts first r f = list_found ts (begins ts first) r f
+
+pub list_inner : (ts : List Token) → HasFirst ts → (us : List Token) → ((j : json.Json) → BeginsWith ts j → MatchOption (Some us) (found.as_array j ≡ None) (λ vs. (js : json.Items) × (j ≡ json.array js) × InItems vs js)) → HasInner us
+list_inner ts first us f =
+    let h = begins ts first in
+    let p = f h.0 h.1 in
+    has_inner us p.0 p.2
 
 -- ---- depth and numbers
 

@@ -29,6 +29,10 @@ items_or_none (Some p) = p.0
 unfoldable pub placed_items : List Token → Items
 placed_items ts = items_of (items_or_none (json.items (json.value (length ts)) (length ts) ts))
 
+-- tokens begin with items, and the bracket that closes them
+abbrev pub HasInner : List Token → Type 0
+HasInner ts = IsSome (json.items (json.value (length ts)) (length ts) ts)
+
 -- lists and objects nest no deeper than 127, so many of them being open, and each number is in range
 abbrev pub is_fit : ℕ → List Token → Bool
 is_fit open_ones [] = true

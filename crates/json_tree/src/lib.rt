@@ -8,8 +8,8 @@ mod place;
 mod reading;
 mod spots;
 
-pub use begin::Spot;
+pub use begin::{Spot, Spots};
 pub use look::{is_object, list, member, only_member, text};
 pub use place::places;
 pub use reading::tree;
-pub use spots::{member_at, root, text_at};
+pub use spots::{list_at, member_at, next_item, root, text_at};
