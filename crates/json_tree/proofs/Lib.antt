@@ -1,3 +1,4 @@
 pub mod Seen
 pub mod Whole
 pub mod Numbers
+pub mod Placed

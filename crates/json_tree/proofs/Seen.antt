@@ -88,7 +88,7 @@ members_found name (json.member k j ms) before =
     ∙ ap (or_else (option_map data_of (found.get_member name ms))) (put_found name k (data_of j) before)
     ∙ joined (found.get_member name ms) (bytes_eq k name) j (get_member name before)
 
-get-data_of : (name : List ℕ) (j : json.Json) → get name (data_of j) ≡ option_map data_of (found.get name j)
+pub get-data_of : (name : List ℕ) (j : json.Json) → get name (data_of j) ≡ option_map data_of (found.get name j)
 get-data_of name json.null = refl
 get-data_of name (json.boolean b) = refl
 get-data_of name (json.number s) = go (number_of s)
@@ -182,7 +182,7 @@ same_name k l j d ms same = ap (λ n. members_of ms (put n (data_of j) (member k
 
 -- ---- lists and objects
 
-listed : (j : json.Json) → option_map items_of (found.as_array j) ≡ as_array (data_of j)
+pub listed : (j : json.Json) → option_map items_of (found.as_array j) ≡ as_array (data_of j)
 listed json.null = refl
 listed (json.boolean b) = refl
 listed (json.number s) = go (number_of s)
@@ -206,7 +206,7 @@ list-seen v r e = same_items r ∙ ap (option_map items_of) e ∙ listed (value_
 abbrev pub from_none : json.Members → Members
 from_none ms = members_of ms no_members
 
-objects : (j : json.Json) → option_map from_none (found.as_object j) ≡ as_object (data_of j)
+pub objects : (j : json.Json) → option_map from_none (found.as_object j) ≡ as_object (data_of j)
 objects json.null = refl
 objects (json.boolean b) = refl
 objects (json.number s) = go (number_of s)

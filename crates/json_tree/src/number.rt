@@ -45,7 +45,7 @@ fn has_minus(bytes: &[u8]) -> bool
 }
 
 // Whether the number that a text writes is in range.
-fn is_number(text: &str) -> bool
+pub(crate) fn is_number(text: &str) -> bool
     ensures { result ≡ is_some (number_of text.now) }
 {
     let bytes = text.as_bytes();
