@@ -22,7 +22,7 @@ use Rattle.serde_json.specs.Read.{number_of}
 use Rattle.serde_json.specs.Read as serde
 use Rattle.json_tree.specs.Seen.{data_of, items_of, members_of, in_range, items_in_range, members_in_range}
 use Rattle.json_tree.specs.Placed.{value_or_null, placed, HasFirst, HasInner, items_or_none, placed_items, is_fit, after_token}
-use Rattle.json_tree.proofs.Seen.{if_so, of_json-seen, get-data_of, as_str-data_of, listed}
+use Rattle.json_tree.proofs.Seen.{if_so, of_json-seen, get-data_of, as_str-data_of, listed, from_none, objects}
 
 -- ---- the value that tokens begin with
 
@@ -213,6 +213,18 @@ list_inner ts first us f =
     let h = begins ts first in
     let p = f h.0 h.1 in
     has_inner us p.0 p.2
+
+-- ---- objects
+
+object_found : (ts : List Token) (h : HasValue ts) (r : Option (List Token)) → ((j : json.Json) → BeginsWith ts j → MatchOption r (found.as_object j ≡ None) (λ us. (ms : json.Members) × (j ≡ json.object ms) × InMembers us ms)) → is_some r ≡ is_some (as_object (placed ts))
+object_found ts h r f = go r (f h.0 h.1)
+  where
+    go : (o : Option (List Token)) → MatchOption o (found.as_object h.0 ≡ None) (λ us. (ms : json.Members) × (h.0 ≡ json.object ms) × InMembers us ms) → is_some o ≡ is_some (as_object (placed ts))
+    go None e = sym (ap (λ d. is_some (as_object d)) (placed_is ts h.0 h.1) ∙ ap is_some (sym (objects h.0)) ∙ ap (λ o. is_some (option_map from_none o)) e)
+    go (Some us) p = sym (ap (λ d. is_some (as_object d)) (placed_is ts h.0 h.1) ∙ ap (λ i. is_some (as_object (data_of i))) p.1)
+
+pub placed_object : (ts : List Token) → HasFirst ts → (r : Option (List Token)) → ((j : json.Json) → BeginsWith ts j → MatchOption r (found.as_object j ≡ None) (λ us. (ms : json.Members) × (j ≡ json.object ms) × InMembers us ms)) → is_some r ≡ is_some (as_object (placed ts))
+placed_object ts first r f = object_found ts (begins ts first) r f
 
 -- ---- depth and numbers
 

@@ -12,4 +12,4 @@ pub use begin::{Spot, Spots};
 pub use look::{is_object, list, member, only_member, text};
 pub use place::places;
 pub use reading::tree;
-pub use spots::{list_at, member_at, next_item, root, text_at};
+pub use spots::{is_object_at, list_at, member_at, next_item, root, text_at};

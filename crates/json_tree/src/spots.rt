@@ -1,7 +1,7 @@
 //! Looking into the values of a text that was read.
-ghost use Rattle.std.specs.Prelude.{◌≡◌, ◌<◌, length, option_map, MatchOption, OnSome};
+ghost use Rattle.std.specs.Prelude.{◌≡◌, ◌<◌, length, is_some, option_map, MatchOption, OnSome};
 ghost use Rattle.serde_json.specs.Data.{no_items, item};
-ghost use Rattle.serde_json.specs.Find.{get, as_str, as_array};
+ghost use Rattle.serde_json.specs.Find.{get, as_str, as_array, as_object};
 ghost use Rattle.json_tree.specs.Placed.{placed};
 ghost use Rattle.json_tree.specs.Spots.{spot_data, spots_data};
 
@@ -31,6 +31,13 @@ pub fn text_at<'a>(spot: &Spot<'_, 'a>) -> Option<&'a str>
     ensures { option_map (λ s. s.now) result ≡ as_str (spot_data spot.now) }
 {
     spot.at.as_str()
+}
+
+/// Whether the value is an object.
+pub fn is_object_at(spot: &Spot<'_, '_>) -> bool
+    ensures { result ≡ is_some (as_object (spot_data spot.now)) }
+{
+    spot.at.members().is_some()
 }
 
 /// The items, where the value is a list.
