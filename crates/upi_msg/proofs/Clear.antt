@@ -1,5 +1,5 @@
 -- Bytes that stand in a JSON string as they are, and which texts have no others.
-use Rattle.std.proofs.Common.{mod-lt, pos, codes, decimal, ◌≡◌, ◌≢◌, ℕ, zero, suc, ◌+◌, ◌/◌, ◌%◌, ◌<◌, ◌≤◌, ◌==◌, Bool, true, false, ◌&&◌, not, nat_le, nat_lt, if◌then◌else◌, List, [], ◌∷◌, ◌++◌, length, get_or, drop, refl, sym, ap, ap₂, ◌∙◌, subst, IsUtf8, arith}
+use Rattle.std.proofs.Common.{mod-lt, pos, codes, decimal, ◌≡◌, ◌≢◌, ℕ, zero, suc, ◌+◌, ◌/◌, ◌%◌, ◌<◌, ◌≤◌, ◌==◌, Bool, true, false, ◌&&◌, not, nat_le, nat_lt, if◌then◌else◌, List, [], ◌∷◌, ◌++◌, length, get_or, drop, refl, ap₂, ◌∙◌, subst, IsUtf8, arith}
 use Rattle.std.specs.Char.{is_ascii_alphanumeric, is_ascii_uppercase, is_ascii_digit}
 use Rattle.std.specs.List.{list_all, prefix_len}
 use Rattle.std.specs.Fmt.{digit_glyph, digits_onto, digits}

@@ -1,17 +1,15 @@
 -- The trees of messages are texts alone, with the members of each object in order.
-use Rattle.std.proofs.Common.{◌≡◌, ◌≤◌, ℕ, suc, Bool, true, false, List, ◌++◌, codes, Option, Some, None, option_map, decimal, refl, arith}
-use Rattle.std.specs.List.{list_all}
+use Rattle.std.proofs.Common.{◌≡◌, ◌≤◌, ℕ, suc, Bool, true, false, List, ◌++◌, codes, Option, Some, None, option_map, decimal, refl}
 use Rattle.std.specs.Str.{is_utf8}
 use Rattle.std.proofs.lemmas.Bool.{and_parts}
-use Rattle.std.proofs.lemmas.Bool.Decides.{nat_tests}
 use Rattle.std.proofs.lemmas.Str.{is_utf8-from_IsUtf8}
-use Rattle.upi_base.specs.Texts.{fits, is_name, is_run, is_bank, is_account, is_note, is_two_digits, is_addr, is_note_text, is_digits_text, is_plain_byte, is_bank_code, is_ac_num, is_txn_id, is_msg_id}
+use Rattle.upi_base.specs.Texts.{fits, is_name, is_run, is_note, is_addr, is_note_text, is_digits_text, is_plain_byte, is_bank_code, is_ac_num, is_txn_id, is_msg_id}
 use Rattle.upi_base.specs.Money.{paise_text}
 use Rattle.upi_base.specs.Time.{moment_text, max_moment}
 use Rattle.upi_msg.specs.Types.{Kind, Ver, Extra, Head, AccountRef, Message, Api, Data}
 use Rattle.upi_msg.specs.Tree.{only, ver_text, kind_text, result_text, api_text, head_tree_of, head_tree, amount_tree, account_tree, rules_tree, payer_tree, payee_tree, txn_tree, parties_tree, answer_payer_tree, resp_tree, account_payees_tree, answer_body, check_tree, confirmed_tree, message_tree}
 use Rattle.upi_msg.specs.Typed.{IsTypedHead, IsTypedAccount, IsTypedAc, IsTypedNote, IsTypedExtra, IsTypedMessage}
-use Rattle.upi_msg.proofs.Clear.{is_clear, are_clear, utf8_clear, clear-append, clear_bank, clear_num, clear_digits, clear_name, clear_address, clear_paise, clear_moment, clear_decimal}
+use Rattle.upi_msg.proofs.Clear.{are_clear, utf8_clear, clear-append, clear_bank, clear_num, clear_digits, clear_name, clear_address, clear_paise, clear_moment, clear_decimal}
 use Rattle.upi_msg.proofs.Wells.{well}
 
 -- ---- texts that are UTF-8
