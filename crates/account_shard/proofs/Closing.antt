@@ -281,3 +281,19 @@ module _ (S : Setup) (s : ℕ) (h : History) (e : Entry) (rs : List Order) (run 
       go false is y named = refl
       go true is None named = refl
       go true is (Some a) named = ap (λ (n : ℕ). Some n) (balance_is a (ap account_shard (account_name S ac a named) ∙ sym (eqb-true s (account_shard ac) is)))
+
+  -- and how its legs were answered
+  pub answer_closed : (t : Text) (l : Leg) (q : Opening) (a : Account) → Legal S h → opening S t h ≡ Some q → account_at S (posted_at l q.terms) ≡ Some a → account_shard a.ac ≡ s
+      → kept_answer (kept S (rs ++ own_orders (own_deeds (Owner.Accounts s) h))) t l ≡ answer S (e ∷ h) t l
+  answer_closed t l q a legal begun held mine =
+      by.answers t l ∙ ap (λ (b : Bool). cond b (with_returns (answer S h) rs t l) None) (at_true S s l (opening S t h) q a begun held mine) ∙ leg l held
+    where
+      by : KeptBy S s h (with_returns (answer S h) rs) (kept S (rs ++ os))
+      by = let k = kept_history S s h legal run in kept_by S s h os rs (record { answers = k.answers; totals = k.totals }) returns.each
+
+      leg : (l : Leg) → account_at S (posted_at l q.terms) ≡ Some a → with_returns (answer S h) rs t l ≡ answer S (e ∷ h) t l
+      leg Leg.Debit held = debits_stay (answer S h) rs t ∙ sym (at_end t Leg.Debit ∙ or_none (answer S h t Leg.Debit))
+      leg Leg.Credit held = credits_stay (answer S h) rs t ∙ sym (at_end t Leg.Credit ∙ or_none (answer S h t Leg.Credit))
+      leg Leg.Reversal held =
+          reversals_are (answer S h) rs t ∙ ap (λ (b : Bool). option_or (answer S h t Leg.Reversal) (when b (post_reversal (answer S h t Leg.Debit)))) (returns.which t q a begun held mine)
+          ∙ sym (at_end t Leg.Reversal)

@@ -2,7 +2,7 @@
 use std::alloc::Global;
 use std::marker::Model;
 use std::mem;
-use upi_base::{Answer, Leg, Paise, Reply, Sent, SentList};
+use upi_base::{AccountRef, Answer, Leg, Paise, Reply, Sent, SentList};
 use upi_model::Order;
 
 /// An order that was planned: how the bank answers it, what that moves, and the reply and the
@@ -33,6 +33,13 @@ impl Step {
         ensures { result.now ≡ self.now.reply }
     {
         &self.reply
+    }
+
+    /// The account of the order, at which the step posts.
+    pub fn account(&self) -> &AccountRef
+        ensures { result.now ≡ self.now.order.ac }
+    {
+        &self.order.ac
     }
 
     /// The messages that the delivery of the order sends: the bank's answer.

@@ -1,0 +1,5 @@
+pub mod Places
+pub mod Stands
+pub mod Beginnings
+pub mod Histories
+pub mod Answers
