@@ -25,14 +25,14 @@ length_joined : (ks : List Kept) (x : Option Kept) → length (joined ks x) ≤ 
 length_joined ks None = omega arith
 length_joined ks (Some k) = let n = length-append ks (k ∷ []) in omega (arith, n)
 
-legs_few : (S : Setup) (orders : List Order) → length (kept S orders) ≤ length orders
+pub legs_few : (S : Setup) (orders : List Order) → length (kept S orders) ≤ length orders
 legs_few S [] = omega arith
 legs_few S (o ∷ orders) =
     let before = legs_few S orders in
     let now = length_joined (kept S orders) (keeps S (kept S orders) o) in
     omega (arith, before, now)
 
-orders_few : (mine : List Deed) → length (own_orders mine) ≤ length mine
+pub orders_few : (mine : List Deed) → length (own_orders mine) ≤ length mine
 orders_few [] = omega arith
 orders_few (x ∷ before) = go (order_in x.message) (orders_few before)
   where
@@ -40,7 +40,7 @@ orders_few (x ∷ before) = go (order_in x.message) (orders_few before)
     go None later = omega (arith, later)
     go (Some o) later = omega (arith, later)
 
-deeds_few : (w : Owner) (h : History) → length (own_deeds w h) ≤ length h
+pub deeds_few : (w : Owner) (h : History) → length (own_deeds w h) ≤ length h
 deeds_few w [] = omega arith
 deeds_few w (e ∷ h) = go (is_own w h e) (deeds_few w h)
   where
@@ -50,7 +50,7 @@ deeds_few w (e ∷ h) = go (is_own w h e) (deeds_few w h)
 
 -- ---- the account is there
 
-there : (S : Setup) (s : ℕ) (orders : List Order) (p : Ledger) (o : Order) (a : Account) → s ≡ account_shard o.ac → account_named S o.ac ≡ Some a → Stands S s orders p → IsSome (holding_of p.book o.ac)
+pub there : (S : Setup) (s : ℕ) (orders : List Order) (p : Ledger) (o : Order) (a : Account) → s ≡ account_shard o.ac → account_named S o.ac ≡ Some a → Stands S s orders p → IsSome (holding_of p.book o.ac)
 there S s orders p o a at named stands = go (holding_of p.book o.ac) (stands.accounts_are o.ac ∙ (λ i. is_some (cond (same i) (named i) None)))
   where
     same : (s == account_shard o.ac) ≡ true

@@ -1,6 +1,6 @@
 -- The shards before the first order: they have the accounts that the lines so far give.
 use Rattle.std.proofs.Common.{◌≡◌, ℕ, zero, suc, ◌<◌, ◌+◌, Bool, true, false, cond, List, [], ◌∷◌, ◌++◌, length, take, set, Option, Some, None, refl, sym, ap, subst, ◌∙◌, arith, append_assoc}
-use Rattle.std.specs.Prelude.{Result, Ok, Err, OnOk, is_some, is_none, not, ◌==◌, slice_get, nat_le}
+use Rattle.std.specs.Prelude.{is_some, is_none, not, ◌==◌, slice_get, nat_le}
 use Rattle.std.specs.List.{AllByRecursion, count_by}
 use Rattle.std.specs.Option.{option_and_then, option_map}
 use Rattle.std.proofs.lemmas.Bool.{and_parts}
@@ -92,10 +92,8 @@ pub stand_beside : (S : Setup) (l : SetupLine) (ps : List Ledger) → [] ≡ lin
 stand_beside S l ps none all = record { sixteen = all.sixteen; each = λ s p is. stands_beside S s l p (line_beside s l none) (all.each s p is) }
 
 -- a line that gives an account adds it to its shard
-pub stand_opened : {T E : Type 0} (r : Result T E) (a : Account) (ps : List Ledger) (p now : Ledger) → slice_get ps (account_shard a.ac) ≡ Some p
-    → OnOk r ((S : Setup) → Stands S (account_shard a.ac) [] p → Stands (S ++ line_of a ∷ []) (account_shard a.ac) [] now)
-    → OnOk r ((S : Setup) → StandAll S (λ (s : ℕ). []) ps → StandAll (S ++ line_of a ∷ []) (λ (s : ℕ). []) (set ps (account_shard a.ac) now))
-stand_opened (Ok x) a ps p now is opens = λ S all.
-    stand_changed S (S ++ line_of a ∷ []) (λ (s : ℕ). []) (λ (s : ℕ). []) ps (account_shard a.ac) now all (opens S (all.each (account_shard a.ac) p is))
+pub stand_opened : (a : Account) (ps : List Ledger) (p now : Ledger) → slice_get ps (account_shard a.ac) ≡ Some p → (S : Setup)
+    → (Stands S (account_shard a.ac) [] p → Stands (S ++ line_of a ∷ []) (account_shard a.ac) [] now) → StandAll S (λ (s : ℕ). []) ps → StandAll (S ++ line_of a ∷ []) (λ (s : ℕ). []) (set ps (account_shard a.ac) now)
+stand_opened a ps p now is S opens all =
+    stand_changed S (S ++ line_of a ∷ []) (λ (s : ℕ). []) (λ (s : ℕ). []) ps (account_shard a.ac) now all (opens (all.each (account_shard a.ac) p is))
     (λ s q at stands. stands_beside S s (line_of a) q at stands)
-stand_opened (Err x) a ps p now is opens = tt

@@ -65,8 +65,6 @@ one_order S h e n m o run call found is s = go (s == account_shard o.ac) refl
     owner : owner_with (Some m) e.call ≡ Owner.Accounts (account_shard o.ac)
     owner = ap (owner_with (Some m)) call ∙ owner_is m.body o is
 
-
-
     order : order_in (delivered_with (Some m) e.call) ≡ Some o
     order = ap (λ (c : Call). order_in (delivered_with (Some m) c)) call ∙ is
 
@@ -113,7 +111,6 @@ closing (Call.Hear p x) is = absurd cc
 closing (Call.Deliver n) is = absurd cc
 closing (Call.Lose n) is = absurd cc
 closing (Call.Late t) is = absurd cc
-
 
 orders_append : (s : ℕ) (xs ys : List Sent) → orders_at s (xs ++ ys) ≡ orders_at s xs ++ orders_at s ys
 orders_append s [] ys = refl

@@ -3,3 +3,4 @@ pub mod Stands
 pub mod Beginnings
 pub mod Histories
 pub mod Answers
+pub mod Calls

@@ -1,8 +1,9 @@
 -- What a contract sees of the sixteen shards of accounts: for which orders they stand, and what they can post.
-use Rattle.std.specs.Prelude.{ℕ, ◌≡◌, ◌+◌, ◌<◌, ◌≤◌, ◌^◌, ◌==◌, if◌then◌else◌, List, [], ◌∷◌, Option, Some, None, IsSome, IsSomeAnd, length, slice_get}
+use Rattle.std.specs.Prelude.{ℕ, ◌≡◌, ◌+◌, ◌≤◌, ◌^◌, ◌==◌, true, if◌then◌else◌, List, [], ◌∷◌, Option, Some, None, IsSomeAnd, is_some, length, slice_get}
 use Rattle.std.specs.Option.{option_and_then}
 use Rattle.std.specs.List.{AllByRecursion}
 use Rattle.upi_base.specs.declared.limits.TheConstants.{MAX_AMOUNT}
+use Rattle.upi_base.specs.Setup.{account_named}
 use Rattle.upi_base.specs.Shards.{account_shard}
 use Rattle.upi_words.specs.Prelude.{AccountRef, Answer, Leg, Order, Sent, Setup, Text}
 use Rattle.upi_model.specs.Accounts.{kept, kept_answer, order_of}
@@ -53,18 +54,19 @@ IsFresh p = (p.legs ≡ []) × (p.book ≡ [])
 abbrev pub HasRoom : ℕ → List Ledger → Type 0
 HasRoom n ps = AllByRecursion (λ (p : Ledger). n ≤ p.spare) ps
 
--- no shard has more legs than that it can take so many more
-abbrev pub HasFew : ℕ → List Ledger → Type 0
-HasFew n ps = AllByRecursion (λ (p : Ledger). length p.legs + n ≤ 2 ^ 31) ps
+-- the message is an order at an account of the setup, of an amount within an order's
+abbrev pub IsTaken : Setup → Sent → Type 0
+IsTaken S m = IsSomeAnd (order_of m.body) (λ (o : Order). (is_some (account_named S o.ac) ≡ true) × (o.amount ≤ MAX_AMOUNT))
 
--- an order can arrive: its account is there, and its amount is within an order's
-pub record CanArrive (ps : List Ledger) (o : Order) : Type 0 where
-  pub there : IsSome (holding_in ps o.ac)
-  pub small : o.amount ≤ MAX_AMOUNT
-
--- each of these messages is an order that can arrive
-abbrev pub AllArrive : List Ledger → List Sent → Type 0
-AllArrive ps ms = AllByRecursion (λ (m : Sent). IsSomeAnd (order_of m.body) (λ (o : Order). CanArrive ps o)) ms
+-- These messages can arrive, one after the other: the shards stand over a setup that has their accounts, have not too many orders, and have
+-- room for them.
+pub record CanTake (ps : List Ledger) (ms : List Sent) : Type 0 where
+  pub setup : Setup
+  pub orders : ℕ → List Order
+  pub stand : StandAll setup orders ps
+  pub each : AllByRecursion (IsTaken setup) ms
+  pub few : (s : ℕ) → length (orders s) + length ms ≤ 2 ^ 31
+  pub room : HasRoom (length ms) ps
 
 -- the orders of each shard after these messages came, the first of them first
 abbrev pub with_messages : List Sent → (ℕ → List Order) → ℕ → List Order

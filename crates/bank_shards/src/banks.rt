@@ -1,13 +1,13 @@
 //! The sixteen shards, and the calls on them.
-ghost use Rattle.std.specs.Prelude.{◌≡◌, ◌+◌, ◌∷◌, ◌++◌, [], ℕ, List, Some, None, true, false, map, length, is_some, IfOk, OnOk, IsSomeAnd};
+ghost use Rattle.std.specs.Prelude.{◌≡◌, ◌+◌, ◌∷◌, ◌++◌, [], ℕ, List, Some, None, true, false, map, length, IfOk, OnOk, IsSomeAnd};
 ghost use Rattle.std.specs.List.{AllByRecursion};
 ghost use Rattle.upi_base.specs.Setup.{is_setup, account_at};
-ghost use Rattle.upi_words.specs.Prelude.{Setup, History, Order, Opening, Account as AnAccount, AccountRef as AnAccountRef, Legal, is_closed, opening};
+ghost use Rattle.upi_words.specs.Prelude.{Setup, History, Order, Opening, Account as AnAccount, Legal, is_closed, opening};
 ghost use Rattle.upi_model.specs.Accounts.{order_of};
 ghost use Rattle.upi_model.specs.History.{message_at};
 ghost use Rattle.upi_model.specs.Postings.{answer, posted_at};
 ghost use Rattle.account_shard.specs.Shard.{IsAnswer, IsPlanOf, line_of};
-ghost use Rattle.bank_shards.specs.Banks.{StandAll, HasRoom, HasFew, HasNoLeg, IsFresh, AllArrive, CanArrive, CanPostIn, IsPlannedIn, answer_all, holding_in, with_order, with_one, with_messages, without_room, balance_all};
+ghost use Rattle.bank_shards.specs.Banks.{StandAll, HasRoom, HasNoLeg, IsFresh, CanTake, CanPostIn, IsPlannedIn, answer_all, holding_in, with_order, with_one, with_messages, without_room, balance_all};
 ghost use Rattle.bank_shards.specs.Histories.{orders_in, balance_named};
 
 use crate::orders::{account_in, place_of};
@@ -17,9 +17,7 @@ use leg_post::Posts;
 use std::alloc::Global;
 use std::hash::RandomState;
 use std::marker::Model;
-use upi_base::{
-    Account, AccountRef, Answer, Leg, NoMemory, Sent, SetupLine, TxnId, account_shard,
-};
+use upi_base::{Account, AccountRef, Answer, Leg, NoMemory, Sent, SetupLine, TxnId, account_shard};
 use vpa_directory::Directory;
 
 /// The sixteen shards of accounts. Contracts see the list of their ledgers.
@@ -98,8 +96,9 @@ impl BankShards {
     {
         let mut banks = BankShards::empty(alloc, hashes)?;
         for at in 0..lines.len() {
-            if let Some(account) = account_in(&lines[at]) {
-                banks.open(account)?;
+            match account_in(&lines[at]) {
+                Some(account) => banks.open(account)?,
+                None => {}
             }
         }
         Ok(banks)
@@ -108,11 +107,7 @@ impl BankShards {
     /// The shards of a setup, before the first order. The accounts and the legs are hashed with
     /// `hashes`, so whoever chooses their names can't choose them to collide. It fails only for want
     /// of memory.
-    pub fn over(
-        alloc: Global,
-        hashes: RandomState,
-        dir: &Directory,
-    ) -> Result<BankShards, NoMemory>
+    pub fn over(alloc: Global, hashes: RandomState, dir: &Directory) -> Result<BankShards, NoMemory>
         ensures { IfOk result (StandAll dir.now.lines (λ s. [])) }
     {
         BankShards::of_lines(alloc, hashes, dir.setup().lines.items())
@@ -174,16 +169,11 @@ impl BankShards {
         shard.commit(step);
     }
 
-    /// Posts an order that a Close makes arrive. It takes no memory. Condition: the message is an
-    /// order whose account is there and whose amount is within an order's, and its shard has room,
-    /// and not too many legs.
-    pub fn arrive(&mut self, order: Sent)
-        requires order { IsSomeAnd (order_of order.body) (CanArrive self.old) }
-        requires few { HasFew 1 self.old }
+    // Posts an order. It takes no memory.
+    fn arrive(&mut self, order: Sent)
+        requires order { IsSomeAnd (order_of order.body) (λ o. CanPostIn self.old o) }
         requires room { HasRoom 1 self.old }
         ensures stands { (S : Setup) (orders : ℕ → List Order) → StandAll S orders self.old → StandAll S (with_one (order_of order.body) orders) self.new }
-        ensures there { (ac : AnAccountRef) → is_some (holding_in self.new ac) ≡ is_some (holding_in self.old ac) }
-        ensures few { (n : ℕ) → HasFew (n + 1) self.old → HasFew n self.new }
         ensures room { (n : ℕ) → HasRoom (n + 1) self.old → HasRoom n self.new }
     {
         let place = place_of(&order);
@@ -191,13 +181,11 @@ impl BankShards {
         let _moved = shard.arrive(order);
     }
 
-    /// Posts the orders that a Close makes arrive, one after the other. It takes no memory.
-    /// Condition: each is an order whose account is there and whose amount is within an order's, and
-    /// the shards have room for all of them, and not too many legs.
+    /// Posts the orders that a Close makes arrive, one after the other. It takes no memory, and
+    /// always succeeds. Condition: the shards stand for a setup that has the orders' accounts, each
+    /// amount is within an order's, and there is room for all of them.
     pub fn arrive_all(&mut self, orders: Vec<Sent>)
-        requires all { AllArrive self.old orders.items }
-        requires few { HasFew (length orders.items) self.old }
-        requires room { HasRoom (length orders.items) self.old }
+        requires { CanTake self.old orders.items }
         ensures { (S : Setup) (before : ℕ → List Order) → StandAll S before self.old → StandAll S (with_messages orders.items before) self.new }
     {
         for order in orders {

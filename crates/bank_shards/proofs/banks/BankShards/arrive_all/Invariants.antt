@@ -1,13 +1,11 @@
-use Rattle.std.proofs.Common.{ℕ, List, length, ◌≡◌, ◌++◌}
+use Rattle.std.proofs.Common.{ℕ, List, ◌≡◌, ◌++◌}
 use Rattle.upi_words.specs.Prelude.{Order, Setup}
-use Rattle.bank_shards.specs.Banks.{StandAll, AllArrive, HasFew, HasRoom, with_messages}
+use Rattle.bank_shards.specs.Banks.{StandAll, CanTake, with_messages}
 use Rattle.bank_shards.proofs.banks.BankShards.arrive_all.Given as goal
 
 abbrev pub invariant-loop-order : goal.invariant-loop-order
 invariant-loop-order l = record {
   parts : l.yielded ++ l.order-iterator.rest.items ≡ l.fn.orders.items;
-  all : AllArrive l.self l.order-iterator.rest.items;
-  few : HasFew (length l.order-iterator.rest.items) l.self;
-  room : HasRoom (length l.order-iterator.rest.items) l.self;
+  can : CanTake l.self l.order-iterator.rest.items;
   stands : (S : Setup) (before : ℕ → List Order) → StandAll S before l.fn.self → StandAll S (with_messages l.yielded before) l.self;
 }
