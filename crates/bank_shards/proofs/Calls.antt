@@ -110,7 +110,7 @@ module _ (old xs : List Ledger) (k : ℕ) (p : Ledger) (read : IsRead old xs k p
 -- ---- orders that a Close makes arrive
 
 -- one of the sixteen
-shard_there : (S : Setup) (orders : ℕ → List Order) (ps : List Ledger) (o : Order) → StandAll S orders ps → (p : Ledger) × (slice_get ps (account_shard o.ac) ≡ Some p)
+pub shard_there : (S : Setup) (orders : ℕ → List Order) (ps : List Ledger) (o : Order) → StandAll S orders ps → (p : Ledger) × (slice_get ps (account_shard o.ac) ≡ Some p)
 shard_there S orders ps o all = some_at ps (account_shard o.ac) (let n = all.sixteen in let w = shard_small o in omega (arith, n, w))
   where
     some_at : (xs : List Ledger) (i : ℕ) → i < length xs → (p : Ledger) × (slice_get xs i ≡ Some p)

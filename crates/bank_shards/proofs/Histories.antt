@@ -89,6 +89,16 @@ no_order S h e t run owner s =
     ∙ (stands_more (Owner.Accounts s) (own_deeds (Owner.Accounts s) h) (message_of h e.call) e h run refl refl).own_same (ap (same_owner (Owner.Accounts s)) owner)
     ∙ sym (orders_open S s (e ∷ h) run)
 
+owner_is_with : (h : History) (c : Call) → owner_with (message_of h c) c ≡ owner_of h c
+owner_is_with h (Call.Hear p what) = refl
+owner_is_with h (Call.Deliver n) = refl
+owner_is_with h (Call.Lose n) = refl
+owner_is_with h (Call.Late t) = refl
+owner_is_with h Call.Close = refl
+
+pub no_order_of : (S : Setup) (h : History) (e : Entry) (t : ℕ) → is_closed (e ∷ h) ≡ false → owner_of h e.call ≡ Owner.Txns t → (s : ℕ) → orders_in S h s ≡ orders_in S (e ∷ h) s
+no_order_of S h e t run owner s = no_order S h e t run (owner_is_with h e.call ∙ owner) s
+
 -- from the first Close on no entry is a shard's own
 own_closed : (w : Owner) (h : History) (e : Entry) → is_closed (e ∷ h) ≡ true → own_deeds w (e ∷ h) ≡ own_deeds w h
 own_closed w h e shut = λ i. deeds (cond (not (shut i) && same_owner w (owner_of h e.call)) (record { entry = e; message = message_of h e.call } ∷ own w h) (own w h))

@@ -4,3 +4,6 @@ pub mod Beginnings
 pub mod Histories
 pub mod Answers
 pub mod Calls
+pub mod Closes
+pub mod Flights
+pub mod Gathered

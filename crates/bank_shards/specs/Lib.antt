@@ -1,2 +1,4 @@
 pub mod Banks
 pub mod Histories
+pub mod Flights
+pub mod BankLaws

@@ -6,7 +6,7 @@
 #![tactic(auto)]
 
 mod banks;
-// pub mod laws;
+pub mod laws;
 mod orders;
 
 pub use banks::BankShards;
