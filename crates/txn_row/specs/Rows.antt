@@ -1,10 +1,12 @@
 -- A row: what a switch keeps of a transaction, and how the transaction stands by it.
 use Rattle.std.specs.Prelude.{ℕ, ◌≡◌, Bool, true, false, if◌then◌else◌, List, [], Option, Some, None, is_some}
+use Rattle.std.specs.List.{AllByRecursion}
 use Rattle.upi_base.specs.Lists.{when}
 use Rattle.upi_base.specs.Setup.{account_at}
 use Rattle.upi_words.specs.Prelude.{Leg, Outcome, Said, Event, Opening, Sent, Setup, Text}
 use Rattle.upi_model.specs.AtClose.{returns_at_close}
 use Rattle.upi_model.specs.Happenings.{unopened}
+use Rattle.upi_model.specs.Owners.{body_txn}
 use Rattle.upi_model.specs.Postings.{Answers}
 use Rattle.upi_model.specs.Replies.{reply_by}
 use Rattle.upi_model.specs.Sending.{order, sent_between}
@@ -124,4 +126,6 @@ pub record IsTurn (S : Setup) (c : Course) (e : Event) (now : ℕ) (turn : Turn)
 -- Before a Close: what an event makes of a row, for all that its transaction may stand for, whatever its shard has opened and the banks say.
 pub record Turns (S : Setup) (c : Course) (e : Event) (now : ℕ) (turn : Turn) : Type 0 where
   pub kept : IsRow (after c turn.progress)
+  -- each message is about the transaction
+  pub about : AllByRecursion (λ (s : Sent). body_txn s.body ≡ c.opening.terms.txn) turn.sent
   pub each : (room : ℕ) (says : Answers) (s : Standing) (m : Sendings) → IsInside S c.opening → Says c s m → IsTurn S c e now turn room says s m

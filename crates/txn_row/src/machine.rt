@@ -2,6 +2,8 @@
 ghost use Rattle.std.specs.Prelude.{◌≡◌};
 ghost use Rattle.txn_machine.specs.Follows;
 ghost use Rattle.txn_machine.specs.Stands;
+ghost use Rattle.txn_machine.specs.declared.moves.Wants.{Wants};
+ghost use Rattle.upi_words.specs.Prelude.{Reply};
 ghost use Rattle.txn_row.specs.Rows.{machine_in};
 
 use collect_machine::CollectMachine;

@@ -20,10 +20,10 @@ use vpa_directory::Directory;
 fn psp_of(addr: &Addr) -> PspName
     ensures { result ≡ Setup.provider addr.now }
 {
-    match PspName::read(provider(addr.bytes())) {
-        Some(psp) => psp,
-        None => unreachable!(),
-    }
+    let Some(psp) = PspName::read(provider(addr.bytes())) else {
+        unreachable!();
+    };
+    psp
 }
 
 /// The question to the asked PSP, as the one message that an opening sends.
@@ -91,7 +91,7 @@ fn order_at(
 }
 
 /// Adds the order for a leg, to the bank at which it is posted. It fails only for want of memory.
-#[tactic(auto, using(crate::proofs::Accounts::order_is))]
+
 pub fn order(dir: &Directory, terms: &PayReq, leg: Leg, out: &mut Vec<Sent>) -> Result<(), NoMemory>
     ensures { OnOk result (out.new.items ≡ out.old.items ++ Sending.order dir.now.lines terms.now leg) }
 {

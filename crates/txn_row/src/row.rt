@@ -2,9 +2,10 @@
 ghost use Rattle.std.specs.Prelude.{◌≡◌, ◌++◌, [], ℕ, Some, true, false, is_some, IfOk, OnOk};
 ghost use Rattle.std.specs.Str.{bytes_eq};
 ghost use Rattle.upi_words.specs.Prelude.{Event, Said, Setup};
+ghost use Rattle.upi_model.specs.Places;
 ghost use Rattle.upi_model.specs.Replies.{reply_pay_on, reply_check};
 ghost use Rattle.txn_row.specs.calls.Parts;
-ghost use Rattle.txn_row.specs.Rows.{Turns, Opens, row_returns, after, IsRow, outcome_in, closed_outcome_in, due_in};
+ghost use Rattle.txn_row.specs.Rows.{Turns, Opens, row_returns, after, IsRow, outcome_in, closed_outcome_in, due_in, returns_in};
 
 use crate::machine::RowMachine;
 use crate::messages::{confirm, messages, order};
@@ -52,6 +53,17 @@ fn confirm_then(before: &Option<Confirm>, wants: Wants, now: Moment) -> Option<C
     }
 }
 
+// Whether it waits for its debit or its reversal.
+fn waits(phase: Phase) -> bool
+    ensures { result ≡ Parts.waits phase }
+{
+    match phase {
+        Phase::Debiting => true,
+        Phase::Reversing => true,
+        _ => false,
+    }
+}
+
 impl Row {
     /// The row of a transaction that opens now with these terms.
     pub fn begin(terms: PayReq, now: Moment) -> Row
@@ -92,7 +104,8 @@ impl Row {
 
     // Nothing but this reply.
     fn still(&self, alloc: Global, reply: Reply) -> Turn
-        ensures { result ≡ Parts.still self.now reply }
+        ensures turn { result ≡ Parts.still self.now reply }
+        ensures row { IsRow self.now }
     {
         Turn {
             progress: self.progress,
@@ -110,7 +123,7 @@ impl Row {
         its_move: Move,
         now: Moment,
     ) -> Result<Turn, NoMemory>
-        ensures { IfOk result (λ t. Parts.IsMoved dir.now.lines self.now machine its_move now t) }
+        ensures turn { IfOk result (λ t. Parts.IsMoved dir.now.lines self.now machine its_move now t) }
     {
         let outcome = machine.outcome();
         let sent = messages(alloc, dir, &self.opening.terms, outcome, its_move.wants)?;
@@ -141,6 +154,34 @@ impl Row {
         self.still(alloc, self.repeat_reply(psp, terms))
     }
 
+    // Whether it is the asked PSP.
+    fn is_asked(&self, psp: &PspName) -> bool
+        ensures { result ≡ bytes_eq psp.now (Places.asked self.now.opening.terms) }
+    {
+        psp.bytes() == asked(&self.opening.terms)
+    }
+
+    // The asked PSP says yes or no.
+    fn asked_auth(
+        &self,
+        alloc: Global,
+        dir: &Directory,
+        psp: &PspName,
+        word: &AuthWord,
+        now: Moment,
+    ) -> Result<Turn, NoMemory>
+        requires named { bytes_eq word.now.txn self.now.opening.terms.txn ≡ true }
+        requires its { bytes_eq psp.now (Places.asked self.now.opening.terms) ≡ true }
+        ensures { IfOk result (λ t. Turns dir.now.lines self.now (Event.Heard psp.now (Said.Auth word.now)) now t) }
+    {
+        if accounts_agree(dir, &self.opening.terms, word) {
+            let (machine, its_move) = self.progress.machine.heard_auth(word.amount, word.yes, now);
+            self.moved(alloc, dir, machine, its_move, now)
+        } else {
+            Ok(self.still(alloc, Reply::Ack(Some(Code::Account))))
+        }
+    }
+
     /// A PSP says yes or no to the transaction.
     pub fn hear_auth(
         &self,
@@ -153,14 +194,11 @@ impl Row {
         requires { bytes_eq word.now.txn self.now.opening.terms.txn ≡ true }
         ensures { IfOk result (λ t. Turns dir.now.lines self.now (Event.Heard psp.now (Said.Auth word.now)) now t) }
     {
-        if psp.bytes() != asked(&self.opening.terms) {
-            return Ok(self.still(alloc, Reply::Ack(Some(Code::NotYours))));
+        if self.is_asked(psp) {
+            self.asked_auth(alloc, dir, psp, word, now)
+        } else {
+            Ok(self.still(alloc, Reply::Ack(Some(Code::NotYours))))
         }
-        if !accounts_agree(dir, &self.opening.terms, word) {
-            return Ok(self.still(alloc, Reply::Ack(Some(Code::Account))));
-        }
-        let (machine, its_move) = self.progress.machine.heard_auth(word.amount, word.yes, now);
-        self.moved(alloc, dir, machine, its_move, now)
     }
 
     // The reply to a PSP that asks for the status.
@@ -183,27 +221,25 @@ impl Row {
         self.still(alloc, self.check_reply(psp))
     }
 
+    // The asked PSP says that it was told the outcome.
+    fn asked_confirmed(&self, alloc: Global, psp: &PspName) -> Turn
+        requires { bytes_eq psp.now (Places.asked self.now.opening.terms) ≡ true }
+        ensures { (S : Setup) (now : ℕ) → Turns S self.now (Event.Heard psp.now (Said.Confirmed self.now.opening.terms.txn)) now result }
+    {
+        match &self.progress.confirm {
+            None => self.still(alloc, Reply::Ack(Some(Code::Early))),
+            Some(confirmed) => self.told_turn(alloc, confirmed),
+        }
+    }
+
     /// A PSP says that it was told the outcome.
     pub fn confirmed(&self, alloc: Global, psp: &PspName) -> Turn
         ensures { (S : Setup) (now : ℕ) → Turns S self.now (Event.Heard psp.now (Said.Confirmed self.now.opening.terms.txn)) now result }
     {
-        if psp.bytes() != asked(&self.opening.terms) {
-            return self.still(alloc, Reply::Ack(Some(Code::NotYours)));
-        }
-        match &self.progress.confirm {
-            None => self.still(alloc, Reply::Ack(Some(Code::Early))),
-            Some(confirm) => {
-                let mut confirm = *confirm;
-                confirm.answered();
-                Turn {
-                    progress: Progress {
-                        machine: self.progress.machine,
-                        confirm: Some(confirm),
-                    },
-                    reply: Reply::Ack(None),
-                    sent: SentList::new(alloc),
-                }
-            }
+        if self.is_asked(psp) {
+            self.asked_confirmed(alloc, psp)
+        } else {
+            self.still(alloc, Reply::Ack(Some(Code::NotYours)))
         }
     }
 
@@ -222,26 +258,60 @@ impl Row {
         self.moved(alloc, dir, machine, its_move, now)
     }
 
+    // The confirmation goes on: it is sent again, or nothing happens.
+    fn confirmed_turn(
+        &self,
+        alloc: Global,
+        confirmed: Confirm,
+        again: bool,
+    ) -> Result<Turn, NoMemory>
+        ensures turn { IfOk result (λ t. t ≡ Parts.confirmed_with self.now confirmed again (outcome_in self.now)) }
+        ensures row { IsRow self.now }
+    {
+        let machine = self.progress.machine;
+        if !again {
+            return Ok(self.still(alloc, Reply::NotDue));
+        }
+        let sent = confirm(alloc, &self.opening.terms, self.outcome())?;
+        Ok(Turn {
+            progress: Progress {
+                machine,
+                confirm: Some(confirmed),
+            },
+            reply: Reply::Acted,
+            sent,
+        })
+    }
+
     // A look whether the confirmation is due.
     fn late_confirm(
         &self,
         alloc: Global,
         confirmed: &Confirm,
         now: Moment,
-    ) -> Result<Turn, NoMemory> {
+    ) -> Result<Turn, NoMemory>
+        requires { Some confirmed.now ≡ self.now.progress.confirm }
+        ensures { IfOk result (λ t. (S : Setup) → Turns S self.now (Event.Late self.now.opening.terms.txn) now t) }
+    {
         let mut confirmed = *confirmed;
-        if !confirmed.late(now) {
-            return Ok(self.still(alloc, Reply::NotDue));
-        }
-        let sent = confirm(alloc, &self.opening.terms, self.outcome())?;
-        Ok(Turn {
+        let again = confirmed.late(now);
+        self.confirmed_turn(alloc, confirmed, again)
+    }
+
+    // The asked PSP was told: it isn't told again.
+    fn told_turn(&self, alloc: Global, confirmed: &Confirm) -> Turn
+        ensures { result ≡ Parts.told_with self.now confirmed.now }
+    {
+        let mut confirmed = *confirmed;
+        confirmed.answered();
+        Turn {
             progress: Progress {
                 machine: self.progress.machine,
                 confirm: Some(confirmed),
             },
-            reply: Reply::Acted,
-            sent,
-        })
+            reply: Reply::Ack(None),
+            sent: SentList::new(alloc),
+        }
     }
 
     /// A look whether the transaction is due.
@@ -281,16 +351,21 @@ impl Row {
         }
     }
 
+    /// Whether a Close would make its reversal arrive: it is being debited or reversed.
+    pub fn returns(&self) -> bool
+        ensures { result ≡ returns_in self.now }
+    {
+        waits(self.progress.machine.phase())
+    }
+
     /// Adds the order for the reversal that a Close would make arrive, if it would. It fails only for
     /// want of memory.
     pub fn at_close(&self, dir: &Directory, out: &mut Vec<Sent>) -> Result<(), NoMemory>
         ensures { OnOk result (out.new.items ≡ out.old.items ++ row_returns dir.now.lines self.now) }
     {
-        match self.progress.machine.phase() {
-            Phase::Debiting | Phase::Reversing => {
-                order(dir, &self.opening.terms, Leg::Reversal, out)
-            }
-            _ => Ok(()),
+        if self.returns() {
+            order(dir, &self.opening.terms, Leg::Reversal, out)?;
         }
+        Ok(())
     }
 }

@@ -12,6 +12,7 @@ use Rattle.upi_model.specs.Owners.{input_owner, delivered_owner, lost_owner}
 use Rattle.upi_model.specs.Replies.{reply_to}
 use Rattle.upi_model.specs.Sending.{sent_by}
 use Rattle.upi_model.specs.Standing.{Standing, Sendings}
+use Rattle.upi_model.specs.Structure.{AreApart}
 use Rattle.txn_row.specs.Rows.{Course, Says, IsInside, IsRow, after, unsent}
 use Rattle.txn_shard.specs.declared.step.{Change.Change}
 use Rattle.txn_shard.specs.Rows.{Shard, openings, row_at, turned}
@@ -32,8 +33,8 @@ pub record Stands (S : Setup) (s : ℕ) (mine : List Deed) (rows : List Course) 
   pub opened_are : openings rows ≡ own_opened S mine
   pub says : (t : Text) → RowSays (row_at rows t) (own_standing S t mine) (own_sendings t mine)
   pub here : AllByRecursion (IsHere S s) rows
-  -- each row is what its name finds: no two have one name
-  pub found : AllByRecursion (λ (c : Course). row_at rows c.opening.terms.txn ≡ Some c) rows
+  -- no two rows have one name
+  pub apart : AreApart (openings rows)
 
 -- what is planned of a call: its reply, its messages, and the change of the rows
 pub record Plan : Type 0 where

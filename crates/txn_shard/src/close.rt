@@ -13,8 +13,10 @@ impl TxnShard {
         ensures { IfOk result (λ v. v.items ≡ rows_return dir.now.lines self.now.rows) }
     {
         let mut out = Vec::new(self.alloc);
-        for row in self.rows.values() {
-            row.at_close(dir, &mut out)?;
+        'rows: for place in 0..self.len() {
+            if let Some(row) = self.row(place) {
+                row.at_close(dir, &mut out)?;
+            }
         }
         Ok(out)
     }

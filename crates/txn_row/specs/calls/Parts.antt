@@ -6,6 +6,7 @@ use Rattle.upi_base.specs.Setup.{account_at}
 use Rattle.upi_words.specs.Prelude.{Account, AccountRef, Code, Leg, Outcome, PayReq, Reply, Sent, Party, Body, Setup, Text}
 use Rattle.upi_model.specs.Postings.{posted_at}
 use Rattle.upi_base.specs.Setup.{same_account}
+use Rattle.upi_base.specs.declared.code.Phase.{Phase}
 use Rattle.upi_base.specs.declared.limits.TheConstants.{MAX_AMOUNT, SHARD_ROOM}
 use Rattle.upi_model.specs.Places.{asking}
 use Rattle.upi_model.specs.Replies.{ok}
@@ -95,3 +96,9 @@ confirmed_with c f false x = still c Reply.NotDue
 -- the asked PSP was told: it isn't told again
 abbrev pub told_with : Course → Confirm → Turn
 told_with c f = record { progress = record { machine = c.progress.machine; confirm = Some (record { last = f.last; count = f.count; answered = true }) }; reply = ok; sent = [] }
+
+-- it waits for its debit or its reversal
+abbrev pub waits : Phase → Bool
+waits Phase.Debiting = true
+waits Phase.Reversing = true
+waits _ = false
