@@ -5,4 +5,5 @@ pub mod Goes
 pub mod Opening
 pub mod Reads
 pub mod Legal
+pub mod Plans
 pub mod Gathered

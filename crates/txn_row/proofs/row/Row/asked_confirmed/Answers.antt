@@ -13,7 +13,7 @@ pub returns-in-None : goal.returns-in-None
 returns-in-None c = λ S now.
     let x = c.args.self.now in
     let t = x.opening.terms.txn in
-    let none = c.in-None.is ∙ ap (λ (d : Course). d.progress.confirm) c.self.view_is in
+    let none = sym c.in-None.is ∙ ap (λ (d : Course). d.progress.confirm) c.self.view_is in
     subst (λ (t' : Turn). Turns S x (Event.Heard c.args.psp.now (Said.Confirmed t)) now t') (sym c.still.ensures.turn)
     (early_confirms S x c.args.psp.now t now c.still.ensures.row c.requires (no_outcome x c.still.ensures.row none))
 
@@ -21,6 +21,6 @@ pub returns-in-Some : goal.returns-in-Some
 returns-in-Some c = λ S now.
     let x = c.args.self.now in
     let t = x.opening.terms.txn in
-    let some = c.in-Some.is ∙ ap (λ (d : Course). d.progress.confirm) c.self.view_is in
+    let some = sym c.in-Some.is ∙ ap (λ (d : Course). d.progress.confirm) c.self.view_is in
     subst (λ (t' : Turn). Turns S x (Event.Heard c.args.psp.now (Said.Confirmed t)) now t') (sym c.told_turn.ensures)
-    (told_turns S x c.in-Some.confirmed.now c.args.psp.now t now (subst IsRow c.self.view_is c.self.invariant) some (self_is t) c.requires)
+    (told_turns S x c.in-Some.confirmed c.args.psp.now t now (subst IsRow c.self.view_is c.self.invariant) some (self_is t) c.requires)

@@ -5,10 +5,10 @@ use Rattle.txn_row.proofs.row.Row.due.Goals as goal
 
 pub returns-in-Some : goal.returns-in-Some
 returns-in-Some c =
-    due_with (record { opening = c.self.inside.opening; progress = c.self.inside.progress }) c.in-Some.confirm.now c.due.result c.self.invariant c.in-Some.is c.due.ensures
+    due_with (record { opening = c.self.inside.opening; progress = c.self.inside.progress }) c.in-Some.confirm c.due.result c.self.invariant (sym c.in-Some.is) c.due.ensures
     ∙ ap due_in c.self.view_is
 
 pub returns-in-None : goal.returns-in-None
 returns-in-None c =
-    due_without (record { opening = c.self.inside.opening; progress = c.self.inside.progress }) c.due-in-None.result c.self.invariant c.in-None.is c.due-in-None.ensures
+    due_without (record { opening = c.self.inside.opening; progress = c.self.inside.progress }) c.due-in-None.result c.self.invariant (sym c.in-None.is) c.due-in-None.ensures
     ∙ ap due_in c.self.view_is

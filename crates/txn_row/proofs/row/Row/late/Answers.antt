@@ -1,3 +1,4 @@
+use Rattle.std.proofs.Common.{sym}
 use Rattle.upi_words.specs.Prelude.{Event, Setup}
 use Rattle.txn_row.specs.declared.turn.{Turn.Turn}
 use Rattle.txn_row.specs.Rows.{Turns}
@@ -17,6 +18,6 @@ returns-in-None c =
     let x = c.args.self.now in
     let m = c.late-machine.result in
     ok_turn (IsMoved S x m.0 m.1 c.args.now) (Turns S x (Event.Late x.opening.terms.txn) c.args.now)
-    (λ t made. late_turns_of S (record { opening = c.self.inside.opening; progress = c.self.inside.progress }) x m.0 m.1 c.args.now t c.self.view_is c.self.invariant c.in-None.is
+    (λ t made. late_turns_of S (record { opening = c.self.inside.opening; progress = c.self.inside.progress }) x m.0 m.1 c.args.now t c.self.view_is c.self.invariant (sym c.in-None.is)
     c.late-machine.ensures.follows c.late-machine.ensures.tells made)
     c.moved.result c.moved.ensures.turn
