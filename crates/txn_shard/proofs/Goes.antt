@@ -91,16 +91,16 @@ module _ (S : Setup) (s : ℕ) (rows : List Course) (e : Event) (m : Option Sent
       let is = turn_is stands at turns in
       let due = is_due_on false (own_standing S t mine) (own_sendings t mine) now in
       let sends : turn.sent ≡ local_sent S mine e m now =
-          is.sends
-          ∙ ap (λ (u : Text). sent_between S due (own_standing S t mine) (advance S u (own_room S t mine) false (own_standing S t mine) e now) e) named
-          ∙ sym (append-nil (sent_between S due (own_standing S t mine) (advance S t (own_room S t mine) false (own_standing S t mine) e now) e))
-          ∙ ap (λ (xs : List Sent). sent_between S due (own_standing S t mine) (advance S t (own_room S t mine) false (own_standing S t mine) e now) e ++ xs) (answers (own_says S mine m)) in
+      is.sends
+      ∙ ap (λ (u : Text). sent_between S due (own_standing S t mine) (advance S u (own_room S t mine) false (own_standing S t mine) e now) e) named
+      ∙ sym (append-nil (sent_between S due (own_standing S t mine) (advance S t (own_room S t mine) false (own_standing S t mine) e now) e))
+      ∙ ap (λ (xs : List Sent). sent_between S due (own_standing S t mine) (advance S t (own_room S t mine) false (own_standing S t mine) e now) e ++ xs) (answers (own_says S mine m)) in
       let about : AllByRecursion (λ (x : Sent). body_txn x.body ≡ t) (local_sent S mine e m now) =
-          subst (λ (u : Text). AllByRecursion (λ (x : Sent). body_txn x.body ≡ u) (local_sent S mine e m now)) named
-          (subst (λ (ms : List Sent). AllByRecursion (λ (x : Sent). body_txn x.body ≡ c.opening.terms.txn) ms) sends turns.about) in
+      subst (λ (u : Text). AllByRecursion (λ (x : Sent). body_txn x.body ≡ u) (local_sent S mine e m now)) named
+      (subst (λ (ms : List Sent). AllByRecursion (λ (x : Sent). body_txn x.body ≡ c.opening.terms.txn) ms) sends turns.about) in
       let itself : Says (after c turn.progress) (advance S t (own_room S t mine) false (own_standing S t mine) e now) (sending t (own_sendings t mine) now (local_sent S mine e m now)) =
-          subst (λ (u : Text). Says (after c turn.progress) (advance S u (own_room S t mine) false (own_standing S t mine) e now) (sending u (own_sendings t mine) now (local_sent S mine e m now))) named
-          (subst (λ (ms : List Sent). Says (after c turn.progress) (advance S c.opening.terms.txn (own_room S t mine) false (own_standing S t mine) e now) (sending c.opening.terms.txn (own_sendings t mine) now ms)) sends is.stands_then) in
+      subst (λ (u : Text). Says (after c turn.progress) (advance S u (own_room S t mine) false (own_standing S t mine) e now) (sending u (own_sendings t mine) now (local_sent S mine e m now))) named
+      (subst (λ (ms : List Sent). Says (after c turn.progress) (advance S c.opening.terms.txn (own_room S t mine) false (own_standing S t mine) e now) (sending c.opening.terms.txn (own_sendings t mine) now ms)) sends is.stands_then) in
       record {
         local = record { replies = is.replies; sends = sends };
         stands = record {
@@ -117,15 +117,15 @@ module _ (S : Setup) (s : ℕ) (rows : List Course) (e : Event) (m : Option Sent
           → RowSays (row_at (turned (txn_of e) turn.progress rows) u) (advance S u (own_room S u mine) false (own_standing S u mine) e now) (sending u (own_sendings u mine) now (local_sent S mine e m now))
       each u true same about itself =
           let found : Some (after c turn.progress) ≡ row_at (turned (txn_of e) turn.progress rows) u =
-              ap (option_map (λ (d : Course). after d turn.progress)) (at ∙ ap (row_at rows) (name_is (txn_of e) u same))
-              ∙ ap (λ (b : Bool). cond b (option_map (λ (d : Course). after d turn.progress) (row_at rows u)) (row_at rows u)) (sym same)
-              ∙ sym (row_turned (txn_of e) u turn.progress rows) in
+          ap (option_map (λ (d : Course). after d turn.progress)) (at ∙ ap (row_at rows) (name_is (txn_of e) u same))
+          ∙ ap (λ (b : Bool). cond b (option_map (λ (d : Course). after d turn.progress) (row_at rows u)) (row_at rows u)) (sym same)
+          ∙ sym (row_turned (txn_of e) u turn.progress rows) in
           subst (λ (r : Option Course). RowSays r (advance S u (own_room S u mine) false (own_standing S u mine) e now) (sending u (own_sendings u mine) now (local_sent S mine e m now))) found
           (subst (λ (v : Text). Says (after c turn.progress) (advance S v (own_room S v mine) false (own_standing S v mine) e now) (sending v (own_sendings v mine) now (local_sent S mine e m now))) (name_is (txn_of e) u same) itself)
       each u false away about itself =
           let found : row_at rows u ≡ row_at (turned (txn_of e) turn.progress rows) u =
-              ap (λ (b : Bool). cond b (option_map (λ (d : Course). after d turn.progress) (row_at rows u)) (row_at rows u)) (sym away)
-              ∙ sym (row_turned (txn_of e) u turn.progress rows) in
+          ap (λ (b : Bool). cond b (option_map (λ (d : Course). after d turn.progress) (row_at rows u)) (row_at rows u)) (sym away)
+          ∙ sym (row_turned (txn_of e) u turn.progress rows) in
           subst (λ (r : Option Course). RowSays r (advance S u (own_room S u mine) false (own_standing S u mine) e now) (sending u (own_sendings u mine) now (local_sent S mine e m now))) found
           (subst (λ (z : Standing). RowSays (row_at rows u) z (sending u (own_sendings u mine) now (local_sent S mine e m now)))
           (sym (stays_other S rows u (own_room S u mine) (own_standing S u mine) (own_sendings u mine) e now (stands.says u) (one.others u away)))

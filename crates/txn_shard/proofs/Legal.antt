@@ -45,12 +45,12 @@ commits S h e s rows p legal run its stands makes =
     let local = calls_are_local S h e.call e.at mine legal.0 r.1 r.0 (owned S h e.call s its) in
     let sends : e.sent ≡ local_sent S mine ev dv e.at = legal.1.sends ∙ local.sends in
     let deed : deed_now S mine ev dv e.at ∷ mine ≡ own_deeds (Owner.Txns s) (e ∷ h) =
-        ap (λ (ms : List Sent). record { what = ev; message = dv; at = e.at; sent = ms } ∷ mine) (sym sends) ∙ sym (more_deeds S h e s run its) in
+    ap (λ (ms : List Sent). record { what = ev; message = dv; at = e.at; sent = ms } ∷ mine) (sym sends) ∙ sym (more_deeds S h e s run its) in
     subst (λ (xs : List Deed). Stands S s xs (rows_after rows p.change)) deed (makes mine stands).stands
 
 pub others : (S : Setup) (h : History) (e : Entry) (s : ℕ) (rows : List Course) → is_closed (e ∷ h) ≡ false → same_owner (Owner.Txns s) (owner_of h e.call) ≡ false
     → Stands S s (own_deeds (Owner.Txns s) h) rows → Stands S s (own_deeds (Owner.Txns s) (e ∷ h)) rows
 others S h e s rows run away stands =
     let same : own_deeds (Owner.Txns s) h ≡ own_deeds (Owner.Txns s) (e ∷ h) =
-        sym (λ i. deeds (if not (run i) && away i then record { entry = e; message = message_of h e.call } ∷ own (Owner.Txns s) h else own (Owner.Txns s) h)) in
+    sym (λ i. deeds (if not (run i) && away i then record { entry = e; message = message_of h e.call } ∷ own (Owner.Txns s) h else own (Owner.Txns s) h)) in
     subst (λ (xs : List Deed). Stands S s xs rows) same stands

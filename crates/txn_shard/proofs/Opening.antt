@@ -118,16 +118,16 @@ module _ (S : Setup) (s : ℕ) (rows : List Course) (p : Text) (r : PayReq) (now
       let then : advance S r.txn (own_room S r.txn mine) false (own_standing S r.txn mine) e now ≡ began (Some o) = new.goes ∙ ap (λ (x : Option Code). began (comes x)) (sym allowed) in
       let sends : question r ∷ [] ≡ local_sent S mine e None now = λ i. sent_at_places S (sym new.stood i) (sym then i) (sym then i).opening ++ [] in
       let known : Passes S (own_opened S mine) p r =
-          passes S (own_opened S mine) p r (ap (λ (n : ℕ). is_none (refusal_at S n p r)) new.room ∙ ap (λ (x : Option Code). is_none x) (sym allowed)) in
+      passes S (own_opened S mine) p r (ap (λ (n : ℕ). is_none (refusal_at S n p r)) new.room ∙ ap (λ (x : Option Code). is_none x) (sym allowed)) in
       let fits : opens_for S r.txn (length rows) false e now ≡ Some o =
-          (λ i. when (self_is r.txn i && is_none (sym allowed i)) o) in
+      (λ i. when (self_is r.txn i && is_none (sym allowed i)) o) in
       let says : Says c (advance S r.txn (length rows) false unopened e now) unsent =
-          subst (λ (q : Opening). opens_for S q.terms.txn (length rows) false (Event.Heard p (Said.Pay q.terms)) q.at ≡ Some q → Says c (advance S q.terms.txn (length rows) false unopened (Event.Heard p (Said.Pay q.terms)) q.at) unsent) at
-          (opens.opens S (length rows) p) fits in
+      subst (λ (q : Opening). opens_for S q.terms.txn (length rows) false (Event.Heard p (Said.Pay q.terms)) q.at ≡ Some q → Says c (advance S q.terms.txn (length rows) false unopened (Event.Heard p (Said.Pay q.terms)) q.at) unsent) at
+      (opens.opens S (length rows) p) fits in
       let itself : Says c (advance S r.txn (own_room S r.txn mine) false (own_standing S r.txn mine) e now) (sending r.txn (own_sendings r.txn mine) now (local_sent S mine e None now)) =
-          subst (λ (n : Sendings). Says c (advance S r.txn (own_room S r.txn mine) false (own_standing S r.txn mine) e now) n)
-          (sym (silent_sending S r.txn (own_sendings r.txn mine) now (local_sent S mine e None now) (silent mine sends r.txn) ∙ new.sent_was))
-          (subst (λ (z : Standing). Says c z unsent) (λ i. advance S r.txn (sym new.room i) false (sym new.stood i) e now) says) in
+      subst (λ (n : Sendings). Says c (advance S r.txn (own_room S r.txn mine) false (own_standing S r.txn mine) e now) n)
+      (sym (silent_sending S r.txn (own_sendings r.txn mine) now (local_sent S mine e None now) (silent mine sends r.txn) ∙ new.sent_was))
+      (subst (λ (z : Standing). Says c z unsent) (λ i. advance S r.txn (sym new.room i) false (sym new.stood i) e now) says) in
       record {
         local = record {
           replies = (λ i. Reply.Ack (allowed i)) ∙ (λ i. reply_pay_on S (sym new.room i) (sym new.stood i).opening p r);
@@ -136,13 +136,16 @@ module _ (S : Setup) (s : ℕ) (rows : List Course) (p : Text) (r : PayReq) (now
         stands = record {
           opened_are = openings_more rows c ∙ (λ i. stands.opened_are i ++ at i ∷ []) ∙ ap (joined (own_opened S mine)) (sym (new.opens_is ∙ ap comes (sym allowed)));
           says = λ u. each mine stands sends itself u (bytes_eq r.txn u) refl;
-          here = all_append (IsHere S s) rows (c ∷ []) stands.here (record {
-            its_shard = ap (λ (q : Opening). txn_shard q.terms.txn) at ∙ its;
-            inside = record {
-              payer_known = ap (λ (q : Opening). is_some (account_at S q.terms.payer)) at ∙ known.payer_known;
-              payee_known = ap (λ (q : Opening). is_some (account_at S q.terms.payee)) at ∙ known.payee_known;
-            };
-          }, tt);
+          here = all_append (IsHere S s) rows (c ∷ []) stands.here (
+            record {
+              its_shard = ap (λ (q : Opening). txn_shard q.terms.txn) at ∙ its;
+              inside = record {
+                payer_known = ap (λ (q : Opening). is_some (account_at S q.terms.payer)) at ∙ known.payer_known;
+                payee_known = ap (λ (q : Opening). is_some (account_at S q.terms.payee)) at ∙ known.payee_known;
+              };
+            },
+            tt,
+          );
           apart = subst AreApart (sym (openings_more rows c))
               (apart_more (openings rows) c.opening (ap (λ (q : Opening). list_any (has_id q.terms.txn) (openings rows)) at ∙ none_opened rows r.txn none) stands.apart);
         };
@@ -158,14 +161,14 @@ module _ (S : Setup) (s : ℕ) (rows : List Course) (p : Text) (r : PayReq) (now
           → RowSays (row_at (rows ++ c ∷ []) u) (advance S u (own_room S u mine) false (own_standing S u mine) e now) (sending u (own_sendings u mine) now (local_sent S mine e None now))
       each mine stands sends itself u true same =
           let found : Some c ≡ row_at (rows ++ c ∷ []) r.txn =
-              (λ i. when (sym (ap (λ (q : Opening). has_id r.txn q) at ∙ self_is r.txn) i) c)
-              ∙ ap (λ (x : Option Course). option_or x (row_if r.txn c)) none
-              ∙ sym (row_more rows c r.txn) in
+          (λ i. when (sym (ap (λ (q : Opening). has_id r.txn q) at ∙ self_is r.txn) i) c)
+          ∙ ap (λ (x : Option Course). option_or x (row_if r.txn c)) none
+          ∙ sym (row_more rows c r.txn) in
           subst (λ (v : Text). RowSays (row_at (rows ++ c ∷ []) v) (advance S v (own_room S v mine) false (own_standing S v mine) e now) (sending v (own_sendings v mine) now (local_sent S mine e None now))) (name_is r.txn u same)
           (subst (λ (x : Option Course). RowSays x (advance S r.txn (own_room S r.txn mine) false (own_standing S r.txn mine) e now) (sending r.txn (own_sendings r.txn mine) now (local_sent S mine e None now))) found itself)
       each mine stands sends itself u false away =
           let found : row_at rows u ≡ row_at (rows ++ c ∷ []) u =
-              sym (row_more rows c u ∙ ap (λ (b : Bool). option_or (row_at rows u) (when b c)) (ap (λ (q : Opening). has_id u q) at ∙ away) ∙ or_none (row_at rows u)) in
+          sym (row_more rows c u ∙ ap (λ (b : Bool). option_or (row_at rows u) (when b c)) (ap (λ (q : Opening). has_id u q) at ∙ away) ∙ or_none (row_at rows u)) in
           subst (λ (x : Option Course). RowSays x (advance S u (own_room S u mine) false (own_standing S u mine) e now) (sending u (own_sendings u mine) now (local_sent S mine e None now))) found
           (subst (λ (z : Standing). RowSays (row_at rows u) z (sending u (own_sendings u mine) now (local_sent S mine e None now)))
           (sym (stays_other S rows u (own_room S u mine) (own_standing S u mine) (own_sendings u mine) e now (stands.says u) away))

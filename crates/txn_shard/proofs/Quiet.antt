@@ -71,9 +71,9 @@ pub nobody_makes : (S : Setup) (s : ℕ) (rows : List Course) (e : Event) (m : O
     → ((says : Answers) → ms ≡ answers_to S says m) → MakesAll S s rows e m now (quiet r ms)
 nobody_makes S s rows e m now r ms nobody answers mine stands =
     let sends : ms ≡ local_sent S mine e m now =
-        answers (own_says S mine m) ∙ ap (λ (xs : List Sent). xs ++ answers_to S (own_says S mine m) m)
-        (sym (nobody.unsending (is_due_on false (own_standing S (txn_of e) mine) (own_sendings (txn_of e) mine) now) (own_standing S (txn_of e) mine)
-        (advance S (txn_of e) (own_room S (txn_of e) mine) false (own_standing S (txn_of e) mine) e now))) in
+    answers (own_says S mine m) ∙ ap (λ (xs : List Sent). xs ++ answers_to S (own_says S mine m) m)
+    (sym (nobody.unsending (is_due_on false (own_standing S (txn_of e) mine) (own_sendings (txn_of e) mine) now) (own_standing S (txn_of e) mine)
+    (advance S (txn_of e) (own_room S (txn_of e) mine) false (own_standing S (txn_of e) mine) e now))) in
     record {
       local = record {
         replies = nobody.replied (own_room S (txn_of e) mine) (own_says S mine m) (is_due_on false (own_standing S (txn_of e) mine) (own_sendings (txn_of e) mine) now) (own_standing S (txn_of e) mine) now;
@@ -131,8 +131,8 @@ vain_makes S s rows e m now r none vain answers mine stands =
     let due : is_due_on false (own_standing S t mine) (own_sendings t mine) now ≡ false = λ i. is_due_on false (at.0 i) (at.1 i) now in
     let stay : advance S t (own_room S t mine) false (own_standing S t mine) e now ≡ unopened = ap (λ (z : Standing). advance S t (own_room S t mine) false z e now) at.0 ∙ vain.stays t (own_room S t mine) now in
     let sends : [] ≡ local_sent S mine e m now =
-        answers (own_says S mine m) ∙ ap (λ (xs : List Sent). xs ++ answers_to S (own_says S mine m) m)
-        (sym ((λ i. sent_between S (due i) (at.0 i) (stay i) e) ∙ vain.unsending)) in
+    answers (own_says S mine m) ∙ ap (λ (xs : List Sent). xs ++ answers_to S (own_says S mine m) m)
+    (sym ((λ i. sent_between S (due i) (at.0 i) (stay i) e) ∙ vain.unsending)) in
     record {
       local = record {
         replies = vain.replied (own_room S t mine) (own_says S mine m) now ∙ (λ i. reply_by S (own_room S t mine) (own_says S mine m) (sym due i) false (sym at.0 i) e now);

@@ -87,12 +87,7 @@ impl TxnShard {
     }
 
     // A model PSP's answer to a confirmation, if a PSP sent it.
-    fn model_was_told(
-        &self,
-        dir: &Directory,
-        message: &Sent,
-        txn: &TxnId,
-    ) -> Result<Step, NoMemory>
+    fn model_was_told(&self, dir: &Directory, message: &Sent, txn: &TxnId) -> Result<Step, NoMemory>
         requires answers { (says : Answers) → [] ≡ answers_to dir.now.lines says (Some message.now) }
         requires room { 0 < self.now.spare }
         ensures planned { IfOk result (λ p. IsPlanned self.now p) }

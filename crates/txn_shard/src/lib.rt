@@ -17,3 +17,6 @@ mod step;
 
 pub use shard::TxnShard;
 pub use step::{Change, Step};
+
+#[cfg(test)]
+mod tests;

@@ -251,12 +251,7 @@ impl TxnShard {
 
     /// Plans a look whether a transaction is due. It takes all memory of the change, and changes
     /// nothing but the room.
-    pub fn plan_late(
-        &mut self,
-        dir: &Directory,
-        txn: &TxnId,
-        now: Moment,
-    ) -> Result<Step, NoMemory>
+    pub fn plan_late(&mut self, dir: &Directory, txn: &TxnId, now: Moment) -> Result<Step, NoMemory>
         ensures planned { IfOk result (λ p. IsPlanned self.new p) }
         ensures makes { IfOk result (λ p. (s : ℕ) → MakesAll dir.now.lines s self.old.rows (Event.Late txn.now) None now p) }
         ensures rows { self.new.rows ≡ self.old.rows }
@@ -276,12 +271,7 @@ impl TxnShard {
 
     /// Plans a call. It takes all memory of the change, and changes nothing but the room. Nothing is
     /// asked of the call: what is said of it holds where the shard owns it.
-    pub fn plan(
-        &mut self,
-        dir: &Directory,
-        call: &ShardCall,
-        now: Moment,
-    ) -> Result<Step, NoMemory>
+    pub fn plan(&mut self, dir: &Directory, call: &ShardCall, now: Moment) -> Result<Step, NoMemory>
         ensures planned { IfOk result (λ p. IsPlanned self.new p) }
         ensures makes { IfOk result (λ p. (s : ℕ) → owner_in call.now ≡ Owner.Txns s → MakesAll dir.now.lines s self.old.rows (event_in call.now) (delivered_in call.now) now p) }
         ensures rows { self.new.rows ≡ self.old.rows }

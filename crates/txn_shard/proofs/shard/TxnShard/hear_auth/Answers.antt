@@ -5,7 +5,7 @@ use Rattle.txn_shard.specs.calls.Plans.{quiet, going}
 use Rattle.txn_shard.proofs.Goes.{auth_goes}
 use Rattle.txn_shard.proofs.Quiet.{vain_auth}
 use Rattle.txn_shard.proofs.Plans.{going_planned, quiet_planned, makes_same}
-use Rattle.txn_shard.proofs.plan.TxnShard.hear_auth.Goals as goal
+use Rattle.txn_shard.proofs.shard.TxnShard.hear_auth.Goals as goal
 
 pub returns-in_ok-turn : goal.returns-in_ok-turn
 returns-in_ok-turn c =

@@ -6,7 +6,7 @@ use Rattle.txn_shard.proofs.Goes.{check_goes}
 use Rattle.txn_shard.proofs.Quiet.{vain_check}
 use Rattle.txn_shard.proofs.Tables.{row_named}
 use Rattle.txn_shard.proofs.Plans.{going_planned, quiet_planned, makes_same, named_check}
-use Rattle.txn_shard.proofs.plan.TxnShard.hear_check.Goals as goal
+use Rattle.txn_shard.proofs.shard.TxnShard.hear_check.Goals as goal
 
 pub returns-in-Some : goal.returns-in-Some
 returns-in-Some c =

@@ -3,7 +3,7 @@ use Rattle.upi_words.specs.Prelude.{Event, Said}
 use Rattle.txn_shard.specs.calls.Plans.{going}
 use Rattle.txn_shard.proofs.Goes.{pay_goes}
 use Rattle.txn_shard.proofs.Plans.{going_planned, makes_same}
-use Rattle.txn_shard.proofs.plan.TxnShard.hear_pay.Goals as goal
+use Rattle.txn_shard.proofs.shard.TxnShard.hear_pay.Goals as goal
 
 pub returns-in-Some : goal.returns-in-Some
 returns-in-Some c =

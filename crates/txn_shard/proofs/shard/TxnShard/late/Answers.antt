@@ -4,7 +4,7 @@ use Rattle.txn_shard.specs.calls.Plans.{quiet, going}
 use Rattle.txn_shard.proofs.Goes.{late_goes}
 use Rattle.txn_shard.proofs.Quiet.{vain_late}
 use Rattle.txn_shard.proofs.Plans.{going_planned, quiet_planned, makes_same, named_late}
-use Rattle.txn_shard.proofs.plan.TxnShard.late.Goals as goal
+use Rattle.txn_shard.proofs.shard.TxnShard.late.Goals as goal
 
 pub returns-in_ok-turn : goal.returns-in_ok-turn
 returns-in_ok-turn c =

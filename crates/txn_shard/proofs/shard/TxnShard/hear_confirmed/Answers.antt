@@ -5,7 +5,7 @@ use Rattle.txn_shard.specs.calls.Plans.{quiet, going}
 use Rattle.txn_shard.proofs.Goes.{confirmed_goes}
 use Rattle.txn_shard.proofs.Quiet.{vain_confirmed}
 use Rattle.txn_shard.proofs.Plans.{going_planned, quiet_planned, makes_same, named_confirmed}
-use Rattle.txn_shard.proofs.plan.TxnShard.hear_confirmed.Goals as goal
+use Rattle.txn_shard.proofs.shard.TxnShard.hear_confirmed.Goals as goal
 
 pub returns-in-Some : goal.returns-in-Some
 returns-in-Some c =

@@ -5,7 +5,7 @@ use Rattle.txn_shard.specs.calls.Plans.{quiet, going}
 use Rattle.txn_shard.proofs.Goes.{answered_goes}
 use Rattle.txn_shard.proofs.Quiet.{vain_answered}
 use Rattle.txn_shard.proofs.Plans.{going_planned, quiet_planned, makes_same, named_answered}
-use Rattle.txn_shard.proofs.deliver.TxnShard.hear_leg.Goals as goal
+use Rattle.txn_shard.proofs.shard.TxnShard.hear_leg.Goals as goal
 
 pub returns-in_ok-turn : goal.returns-in_ok-turn
 returns-in_ok-turn c =

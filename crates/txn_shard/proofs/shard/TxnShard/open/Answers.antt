@@ -6,7 +6,7 @@ use Rattle.txn_shard.specs.Shard.{Plan, IsPlanned, MakesAll}
 use Rattle.txn_shard.specs.calls.Plans.{quiet, opening_plan, IsOpening}
 use Rattle.txn_shard.proofs.Opening.{refused_makes, opens_makes}
 use Rattle.txn_shard.proofs.Plans.{ok_plan, quiet_planned, opening_planned, makes_same}
-use Rattle.txn_shard.proofs.plan.TxnShard.open.Goals as goal
+use Rattle.txn_shard.proofs.shard.TxnShard.open.Goals as goal
 
 pub returns-in-Some : goal.returns-in-Some
 returns-in-Some c =
@@ -30,6 +30,6 @@ returns-in-None c =
       planned = ok_plan (IsOpening r c.args.now) (IsPlanned x) (λ p o. opening_planned x p r c.args.now c.requires.new c.requires.room o) c.opened.result c.opened.ensures;
       makes = ok_plan (IsOpening r c.args.now) (λ (p : Plan). (s : ℕ) → txn_shard r.txn ≡ s → MakesAll S s x.rows (Event.Heard c.args.psp.now (Said.Pay r)) None c.args.now p)
           (λ p o s its. makes_same S s x.rows (Event.Heard c.args.psp.now (Said.Pay r)) None c.args.now p (opening_plan r o.row) o.is
-              (opens_makes S s x.rows c.args.psp.now r c.args.now o.row o.opening_is o.opens its c.requires.new allowed))
+          (opens_makes S s x.rows c.args.psp.now r c.args.now o.row o.opening_is o.opens its c.requires.new allowed))
           c.opened.result c.opened.ensures;
     }
