@@ -1,0 +1,5 @@
+pub mod Accounts
+pub mod Stills
+pub mod Moves
+pub mod Confirmations
+pub mod Readers

@@ -1,0 +1,4 @@
+pub mod Rows
+pub mod Shard
+pub mod ShardLaws
+pub mod calls
