@@ -1,12 +1,11 @@
 -- How legs were answered, by the orders that each shard has had in a history.
-use Rattle.std.proofs.Common.{◌≡◌, ℕ, Bool, true, false, cond, [], ◌∷◌, ◌++◌, List, Some, None, refl, sym, ap, subst, ◌∙◌}
+use Rattle.std.proofs.Common.{◌≡◌, ℕ, Bool, true, false, cond, [], ◌∷◌, ◌++◌, List, Some, None, refl, sym, ap, ◌∙◌}
 use Rattle.std.specs.Prelude.{reverse, ◌||◌}
 use Rattle.upi_base.specs.Setup.{account_at}
 use Rattle.upi_base.specs.Shards.{account_shard}
-use Rattle.upi_words.specs.Prelude.{Account, AccountRef, Answer, Call, Entry, Leg, Opening, Order, Owner, Setup, History, Text, Legal, event_of, is_closed, opened, opening}
-use Rattle.upi_model.specs.Accounts.{at_shard, is_at, kept, kept_answer, own_orders}
+use Rattle.upi_words.specs.Prelude.{Account, AccountRef, Call, Leg, Opening, Order, Setup, History, Text, Legal, event_of, is_closed, opened, opening}
+use Rattle.upi_model.specs.Accounts.{at_shard, is_at, kept, kept_answer}
 use Rattle.upi_model.specs.History.{is_close}
-use Rattle.upi_model.specs.Own.{own_deeds}
 use Rattle.upi_model.specs.Places.{if_of, opens}
 use Rattle.upi_model.specs.Postings.{answer, posted_at}
 use Rattle.upi_base.specs.Lists.{joined, pick}

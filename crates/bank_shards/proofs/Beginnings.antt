@@ -1,5 +1,5 @@
 -- The shards before the first order: they have the accounts that the lines so far give.
-use Rattle.std.proofs.Common.{◌≡◌, ℕ, zero, suc, ◌<◌, ◌+◌, Bool, true, false, cond, List, [], ◌∷◌, ◌++◌, length, take, set, Option, Some, None, refl, sym, ap, subst, ◌∙◌, arith, append_assoc}
+use Rattle.std.proofs.Common.{◌≡◌, ℕ, zero, suc, Bool, true, false, cond, List, [], ◌∷◌, ◌++◌, length, take, set, Option, Some, None, refl, sym, ap, ◌∙◌, append_assoc}
 use Rattle.std.specs.Prelude.{is_some, is_none, not, ◌==◌, slice_get, nat_le}
 use Rattle.std.specs.List.{AllByRecursion, count_by}
 use Rattle.std.specs.Option.{option_and_then, option_map}
@@ -7,17 +7,16 @@ use Rattle.std.proofs.lemmas.Bool.{and_parts}
 use Rattle.std.proofs.lemmas.List.{append-nil}
 use Rattle.upi_base.specs.declared.limits.TheConstants.{MAX_ACCOUNTS}
 use Rattle.upi_base.specs.declared.fault.Why.{Why}
-use Rattle.upi_base.specs.Setup.{accepts_from, account_fault, account_named, has_bank, is_account_line, is_setup, line_accounts, setup_fault}
+use Rattle.upi_base.specs.Setup.{accepts_from, account_named, has_bank, is_account_line, is_setup, line_accounts, setup_fault}
 use Rattle.upi_base.specs.Shards.{account_shard}
 use Rattle.upi_base.proofs.Options.{no_some, none_is}
 use Rattle.upi_words.specs.Prelude.{Account, AccountRef, Order, Setup, SetupLine}
 use Rattle.upi_model.proofs.Own.{same_is}
-use Rattle.bank_book.specs.declared.Holding.{Holding}
 use Rattle.bank_book.specs.Book.{holding_of}
 use Rattle.leg_post.specs.Posts.{Ledger, opening}
-use Rattle.account_shard.specs.Shard.{Stands, is_in, line_of, shard_account}
+use Rattle.account_shard.specs.Shard.{Stands, is_in, line_of}
 use Rattle.account_shard.proofs.Opened.{opens_shard, stands_beside}
-use Rattle.bank_shards.specs.Banks.{StandAll, HasNoLeg, IsFresh, holding_in, ledger_of}
+use Rattle.bank_shards.specs.Banks.{StandAll, HasNoLeg, IsFresh, holding_in}
 use Rattle.bank_shards.proofs.Places.{all_at, all_from}
 use Rattle.bank_shards.proofs.Stands.{stand_changed}
 

@@ -1,22 +1,21 @@
 -- What a call on one shard makes of the sixteen.
 use Rattle.std.proofs.Common.{◌≡◌, ℕ, zero, suc, ◌<◌, ◌≤◌, ◌+◌, ◌^◌, Bool, true, false, cond, List, [], ◌∷◌, ◌++◌, length, map, set, get_or, Option, Some, None, refl, sym, ap, subst, ◌∙◌, arith, eqb-true}
 use Rattle.std.specs.Prelude.{◌==◌, slice_get, IsSomeAnd, Result, Ok, Err, IfOk, OnOk, is_some}
-use Rattle.std.specs.List.{AllByRecursion}
 use Rattle.std.proofs.lemmas.Bool.{both_ways}
 use Rattle.upi_base.specs.declared.limits.TheConstants.{MAX_AMOUNT}
 use Rattle.upi_base.specs.Setup.{account_named}
-use Rattle.upi_base.specs.Shards.{account_shard, account_text, shard_after}
+use Rattle.upi_base.specs.Shards.{account_shard, account_text}
 use Rattle.upi_base.proofs.Hashes.{shard_after_is}
 use Rattle.upi_base.proofs.Options.{is_some_has, some_same}
 use Rattle.upi_words.specs.Prelude.{Account, Order, Owner, Sent, Setup, History, Legal, is_closed}
-use Rattle.upi_model.specs.Accounts.{kept, more, order_of, own_orders}
+use Rattle.upi_model.specs.Accounts.{more, order_of, own_orders}
 use Rattle.upi_model.specs.History.{message_at}
 use Rattle.upi_model.specs.Own.{own_deeds}
 use Rattle.upi_model.proofs.Own.{same_is}
 use Rattle.leg_post.specs.Posts.{Ledger}
 use Rattle.account_shard.specs.Shard.{Stands, CanPost, IsAnswer, IsPlanOf, IsPlanned, Plan, line_of}
 use Rattle.account_shard.proofs.Fits.{legs_few, there}
-use Rattle.bank_shards.specs.Banks.{StandAll, CanPostIn, CanTake, HasRoom, IsPlannedIn, IsTaken, with_messages, with_one, with_order, without_room}
+use Rattle.bank_shards.specs.Banks.{StandAll, CanPostIn, CanTake, HasRoom, IsPlannedIn, with_messages, with_one, with_order, without_room}
 use Rattle.bank_shards.specs.Histories.{orders_in}
 use Rattle.bank_shards.proofs.Beginnings.{stand_opened}
 use Rattle.bank_shards.proofs.Histories.{orders_open}

@@ -1,5 +1,5 @@
 -- Money in flight changes by what an order moves, since all balances and it keep their sum.
-use Rattle.std.proofs.Common.{◌≡◌, ℕ, ◌+◌, ◌-◌, ◌*◌, ◌≤◌, Bool, true, false, cond, List, [], ◌∷◌, length, Option, Some, None, refl, sym, ap, subst, ◌∙◌, arith, eqb-true}
+use Rattle.std.proofs.Common.{◌≡◌, ℕ, ◌+◌, ◌*◌, ◌≤◌, Bool, true, false, cond, List, [], ◌∷◌, length, Option, Some, None, refl, sym, ap, subst, ◌∙◌, arith, eqb-true}
 use Rattle.std.specs.Prelude.{◌==◌, ◌&&◌, not, is_none, slice_get, IsSome, IsSomeAnd}
 use Rattle.std.specs.Option.{option_map, option_or}
 use Rattle.std.specs.List.{AllByRecursion, count_by, sum_by}
@@ -30,7 +30,7 @@ use Rattle.account_shard.specs.Shard.{IsPlanned, Plan, Stands, moved_on}
 use Rattle.bank_shards.specs.Banks.{StandAll, IsPlannedIn, with_order}
 use Rattle.bank_shards.specs.Flights.{FlightMoves, LegMoves}
 use Rattle.bank_shards.specs.Histories.{orders_in}
-use Rattle.bank_shards.proofs.Histories.{after_close, no_order_of, one_order, orders_open}
+use Rattle.bank_shards.proofs.Histories.{no_order_of, one_order, orders_open}
 
 -- what moves nothing leaves a balance
 moved_none : (l : Leg) (b : ℕ) → b ≡ moved_by l 0 b
@@ -103,14 +103,12 @@ module _ (S : Setup) (h : History) (e : Entry) (n : ℕ) (m : Sent) (o : Order) 
       go : (b : Bool) → (account_shard a.ac == account_shard o.ac) ≡ b → IsMoved o.its_leg (λ (a : Account). kept_move S ks o a.ac) (λ (a : Account). balance S a h) (λ (a : Account). balance S a (e ∷ h)) a
       go true at =
           let one = balances_run S (own (account_shard a.ac)) o a named in
-          let move : kept_move S (kept S (own (account_shard a.ac))) o a.ac ≡ kept_move S ks o a.ac = ap (λ (k : ℕ). kept_move S (kept S (own k)) o a.ac) (eqb-true (account_shard a.ac) (account_shard o.ac) at) in
-          (
+          let move : kept_move S (kept S (own (account_shard a.ac))) o a.ac ≡ kept_move S ks o a.ac = ap (λ (k : ℕ). kept_move S (kept S (own k)) o a.ac) (eqb-true (account_shard a.ac) (account_shard o.ac) at) in (
             after ∙ ap (λ (os : List Order). kept_balance (kept S os) a) (with_it true at) ∙ one.balance_runs ∙ (λ i. moved_by o.its_leg (move i) (sym before i)),
             λ debit. let there = one.taken_is_there debit in omega (arith, there, move, before),
           )
       go false at =
-          let nothing : kept_move S ks o a.ac ≡ 0 = zero (same_account o.ac a.ac) refl in
-          (
+          let nothing : kept_move S ks o a.ac ≡ 0 = zero (same_account o.ac a.ac) refl in (
             after ∙ ap (λ (os : List Order). kept_balance (kept S os) a) (with_it false at) ∙ sym before ∙ moved_none o.its_leg (balance S a h) ∙ ap (λ (k : ℕ). moved_by o.its_leg k (balance S a h)) (sym nothing),
             λ debit. omega (arith, nothing),
           )

@@ -1,6 +1,5 @@
 -- The laws of the crate, gathered.
-use Rattle.std.proofs.Common.{◌≡◌, ℕ, false, List, [], ◌∷◌, Some, refl, sym, ap, subst, ◌∙◌}
-use Rattle.std.specs.Prelude.{slice_get}
+use Rattle.std.proofs.Common.{◌≡◌, ℕ, false, List, [], ◌∷◌, Some, refl, subst}
 use Rattle.upi_base.specs.Shards.{account_shard}
 use Rattle.upi_words.specs.Prelude.{Order, Sent, Setup, History, Legal, is_closed}
 use Rattle.upi_model.specs.Accounts.{order_of}

@@ -1,20 +1,19 @@
 -- The orders that each shard has had in a history: with one entry more, and what accounts have by them.
-use Rattle.std.proofs.Common.{◌≡◌, ℕ, Bool, true, false, cond, List, [], ◌∷◌, ◌++◌, Option, Some, None, refl, sym, ap, subst, ◌∙◌, arith, eqb-true, append_assoc}
+use Rattle.std.proofs.Common.{◌≡◌, ℕ, Bool, true, false, cond, List, [], ◌∷◌, ◌++◌, Option, Some, None, refl, sym, ap, subst, ◌∙◌, append_assoc}
 use Rattle.std.specs.Prelude.{◌==◌, ◌&&◌, ◌||◌, not, reverse}
 use Rattle.std.specs.Option.{option_map}
-use Rattle.std.proofs.lemmas.Bool.{or_parts, both_ways}
+use Rattle.std.proofs.lemmas.Bool.{or_parts}
 use Rattle.std.proofs.lemmas.List.{reverse-append}
 use Rattle.upi_base.specs.Lists.{when}
 use Rattle.upi_base.specs.Setup.{account_named}
-use Rattle.upi_base.specs.Shards.{account_shard, txn_shard}
+use Rattle.upi_base.specs.Shards.{account_shard}
 use Rattle.upi_base.proofs.Options.{some_same}
-use Rattle.upi_words.specs.Prelude.{Account, AccountRef, Answer, Body, Call, Entry, Leg, Order, Owner, Sent, Setup, History, Text, Legal, is_closed, balance}
+use Rattle.upi_words.specs.Prelude.{Account, AccountRef, Body, Call, Entry, Order, Owner, Sent, Setup, History, Legal, is_closed, balance}
 use Rattle.upi_model.specs.Accounts.{more, order_in, order_of, own_orders}
 use Rattle.upi_model.specs.Fits.{owner_with}
 use Rattle.upi_model.specs.History.{is_close, message_at}
-use Rattle.upi_model.specs.Local.{StandsFor}
 use Rattle.upi_model.specs.Own.{Deed, delivered_with, deeds, own_deeds}
-use Rattle.upi_model.specs.Owners.{body_owner, is_own, message_of, own, owner_of, same_owner}
+use Rattle.upi_model.specs.Owners.{body_owner, message_of, own, owner_of, same_owner}
 use Rattle.upi_model.specs.Postings.{balance_by}
 use Rattle.upi_model.proofs.Gathered.{step_laws}
 use Rattle.upi_model.proofs.Own.{same_is}
@@ -26,9 +25,8 @@ use Rattle.account_shard.specs.Shard.{Stands, balance_at, shard_account}
 use Rattle.account_shard.proofs.Closing.{balance_closed}
 use Rattle.account_shard.proofs.Returns.{returns_are}
 use Rattle.account_shard.proofs.Stays.{balance_legal}
-use Rattle.bank_shards.specs.Banks.{StandAll, with_messages, with_one, with_order}
+use Rattle.bank_shards.specs.Banks.{with_messages, with_one, with_order}
 use Rattle.bank_shards.specs.Histories.{orders_in, returned_at, balance_named}
-use Rattle.bank_shards.proofs.Stands.{stand_as}
 
 -- ---- one entry more
 

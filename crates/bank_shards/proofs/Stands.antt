@@ -1,18 +1,18 @@
 -- Sixteen shards that stand for orders: where one of them changes, and where none does.
-use Rattle.std.proofs.Common.{◌≡◌, ℕ, ◌<◌, ◌≤◌, ◌+◌, Bool, true, false, cond, List, [], ◌∷◌, ◌++◌, length, map, set, get_or, Option, Some, None, refl, sym, ap, subst, ◌∙◌, arith, eqb-true}
+use Rattle.std.proofs.Common.{◌≡◌, ℕ, ◌<◌, Bool, true, false, cond, List, ◌∷◌, length, map, set, Option, Some, None, refl, sym, ap, subst, ◌∙◌, arith, eqb-true}
 use Rattle.std.specs.Prelude.{◌==◌, slice_get, IsSomeAnd}
 use Rattle.std.proofs.lemmas.Bool.{both_ways}
 use Rattle.std.proofs.lemmas.List.{length-set}
 use Rattle.std.proofs.lemmas.Option.{slice_get_within}
 use Rattle.upi_base.specs.Shards.{account_shard}
 use Rattle.upi_base.proofs.Options.{some_same}
-use Rattle.upi_words.specs.Prelude.{AccountRef, Order, Setup}
+use Rattle.upi_words.specs.Prelude.{Order, Setup}
 use Rattle.upi_model.proofs.Own.{same_is}
 use Rattle.leg_post.specs.Posts.{Ledger}
 use Rattle.account_shard.specs.Shard.{Stands, CanPost, IsPlanned, Plan}
 use Rattle.account_shard.proofs.Stays.{stands_same}
-use Rattle.bank_shards.specs.Banks.{StandAll, CanPostIn, IsPlannedIn, ledger_of, with_order, with_one, without_room}
-use Rattle.bank_shards.proofs.Places.{get_is, get_set_same, get_set_other, map_at, map_length, map_set}
+use Rattle.bank_shards.specs.Banks.{StandAll, CanPostIn, IsPlannedIn, with_order, without_room}
+use Rattle.bank_shards.proofs.Places.{get_set_same, get_set_other, map_at, map_length}
 
 -- the same orders, said otherwise
 pub stand_as : (S : Setup) (orders after : ℕ → List Order) (ps : List Ledger) → ((s : ℕ) → orders s ≡ after s) → StandAll S orders ps → StandAll S after ps

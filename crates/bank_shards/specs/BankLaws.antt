@@ -1,8 +1,7 @@
 -- What the sixteen shards of accounts have to do with histories: the laws.
-use Rattle.std.specs.Prelude.{ℕ, ◌≡◌, ◌+◌, ◌≤◌, true, false, List, [], ◌∷◌, Some, length}
-use Rattle.std.specs.List.{sum_by}
-use Rattle.upi_base.specs.Setup.{accounts, is_setup}
-use Rattle.upi_words.specs.Prelude.{Account, Call, Entry, Order, Owner, Sent, Setup, History, Legal, balance, flight, is_closed}
+use Rattle.std.specs.Prelude.{ℕ, ◌≡◌, ◌≤◌, true, false, List, [], ◌∷◌, Some, length}
+use Rattle.upi_base.specs.Setup.{is_setup}
+use Rattle.upi_words.specs.Prelude.{Call, Entry, Order, Owner, Sent, Setup, History, Legal, flight, is_closed}
 use Rattle.upi_model.specs.Accounts.{order_of}
 use Rattle.upi_model.specs.History.{message_at}
 use Rattle.upi_model.specs.Owners.{owner_of}

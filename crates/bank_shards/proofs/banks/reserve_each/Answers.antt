@@ -1,6 +1,4 @@
-use Rattle.std.proofs.Common.{◌≡◌, ◌<◌, length, ◌∙◌, ap, sym, refl, arith, Some, map}
-use Rattle.std.specs.Prelude.{slice_get}
-use Rattle.leg_post.specs.Posts.{Ledger}
+use Rattle.std.proofs.Common.{◌<◌, length, ◌∙◌, arith}
 use Rattle.bank_shards.specs.Banks.{without_room}
 use Rattle.bank_shards.proofs.Calls.{room_all, room_more}
 use Rattle.bank_shards.proofs.Places.{get_is, map_length, map_set}

@@ -1,7 +1,6 @@
 use Rattle.std.proofs.Common.{◌∙◌, ap}
 use Rattle.upi_base.specs.Shards.{account_shard}
-use Rattle.bank_shards.proofs.Calls.{IsRead, committed, found_old}
-use Rattle.bank_shards.proofs.Stands.{planned_at}
+use Rattle.bank_shards.proofs.Calls.{IsRead, committed}
 use Rattle.bank_shards.proofs.banks.BankShards.commit.Goals as goal
 
 pub returns : goal.returns

@@ -1,5 +1,4 @@
 use Rattle.std.proofs.Common.{◌≡◌, ℕ, List, ◌∙◌, ap, sym, subst, take, ◌+◌, [], ◌∷◌, ◌++◌, Some}
-use Rattle.std.specs.Prelude.{slice_get}
 use Rattle.std.proofs.lemmas.List.{take_more}
 use Rattle.upi_words.specs.Prelude.{Setup, SetupLine}
 use Rattle.leg_post.specs.Posts.{Ledger}
