@@ -17,7 +17,7 @@ use Rattle.txn_shard.proofs.Gathered.{shard_laws}
 use Rattle.txn_shards.specs.Txns.{StandTxns, Placed, MakesIn, all_return, entries_in, rows_with}
 use Rattle.txn_shards.proofs.Changes.{returns_by, some_at, stand_as, stand_with}
 
-owner_is_with : (h : History) (c : Call) → owner_with (message_of h c) c ≡ owner_of h c
+pub owner_is_with : (h : History) (c : Call) → owner_with (message_of h c) c ≡ owner_of h c
 owner_is_with h (Call.Hear p what) = refl
 owner_is_with h (Call.Deliver n) = refl
 owner_is_with h (Call.Lose n) = refl

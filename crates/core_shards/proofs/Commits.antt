@@ -1,0 +1,134 @@
+-- The tables stand for a history, and for the history with one entry more.
+use Rattle.std.proofs.Common.{◌≡◌, ℕ, ◌≤◌, Bool, true, false, cond, List, [], ◌∷◌, map, Option, Some, None, refl, sym, ap, subst, ◌∙◌}
+use Rattle.std.specs.Prelude.{◌||◌, is_some}
+use Rattle.std.proofs.lemmas.Bool.{and_parts, or_parts, or_right}
+use Rattle.upi_base.specs.Shards.{account_shard}
+use Rattle.upi_words.specs.Prelude.{Call, Entry, Order, Owner, Sent, Setup, History, Legal, flight, is_closed}
+use Rattle.upi_model.specs.Accounts.{order_of}
+use Rattle.upi_model.specs.Fits.{owner_with}
+use Rattle.upi_model.specs.History.{is_close, message_at}
+use Rattle.upi_model.specs.Legal.{has_room, may_come, names_known}
+use Rattle.upi_model.specs.Owners.{message_of, owner_of}
+use Rattle.upi_laws.proofs.Accounts.{given_owner}
+use Rattle.leg_post.specs.Posts.{Ledger}
+use Rattle.account_shard.specs.Closing.{all_returns}
+use Rattle.account_shard.specs.Shard.{Plan}
+use Rattle.bank_shards.specs.Banks.{StandAll, IsPlannedIn, with_messages, with_order, without_room}
+use Rattle.bank_shards.specs.Flights.{FlightMoves}
+use Rattle.bank_shards.specs.Histories.{orders_in}
+use Rattle.bank_shards.proofs.Gathered.{bank_laws}
+use Rattle.txn_shards.proofs.Histories.{owner_is_with}
+use Rattle.bank_shards.proofs.Stands.{stand_same}
+use Rattle.txn_row.specs.Rows.{Course}
+use Rattle.txn_shard.specs.Rows.{Shard}
+use Rattle.txn_shards.specs.Txns.{StandTxns, MakesIn, Placed, all_return, entries_in, rows_all, rows_with}
+use Rattle.txn_shards.proofs.Gathered.{txn_laws}
+use Rattle.core_shards.specs.Steps.{CanOrder, CanPlan, IsLegOf}
+use Rattle.core_shards.specs.Tables.{IsCore, Tables}
+
+-- what changes nothing but room leaves the tables standing
+pub core_same : (h : History) (v : Tables) (txns : List Shard) (banks : List Ledger) → rows_all txns ≡ rows_all v.txns → map without_room banks ≡ map without_room v.banks → IsCore h v
+    → IsCore h (record { lines = v.lines; txns = txns; banks = banks; flight = v.flight; closed = v.closed })
+core_same h v txns banks rows room core = record {
+  accepted = core.accepted;
+  legal = core.legal;
+  txns_stand = subst (λ (rss : List (List Course)). StandTxns v.lines (entries_in h) rss) (sym rows) core.txns_stand;
+  banks_stand = stand_same v.lines (orders_in v.lines h) v.banks banks room core.banks_stand;
+  flight_is = core.flight_is;
+  closed_is = core.closed_is;
+}
+
+-- ---- which calls can be planned
+
+pub can_plan : (h : History) (v : Tables) (c : Call) → IsCore h v → is_closed h ≡ false → is_close c ≡ false → may_come v.lines h c ≡ true → CanPlan v c (message_of h c)
+can_plan h v (Call.Hear psp input) core run going comes = tt
+can_plan h v (Call.Late t) core run going comes = tt
+can_plan h v Call.Close core run going comes = absurd cc
+can_plan h v (Call.Lose n) core run going comes = go (message_at h n) (and_parts (is_some (message_at h n)) (has_room h (Call.Lose n)) comes).0
+  where
+    go : (m : Option Sent) → is_some m ≡ true → CanPlan v (Call.Lose n) m
+    go None is = absurd cc
+    go (Some m) is = tt
+can_plan h v (Call.Deliver n) core run going comes = go (message_at h n) refl (and_parts (is_some (message_at h n)) (has_room h (Call.Deliver n)) comes).0
+  where
+    go : (m : Option Sent) → message_at h n ≡ m → is_some m ≡ true → CanPlan v (Call.Deliver n) m
+    go None found is = absurd cc
+    go (Some m) found is = order (order_of m.body) refl
+      where
+        order : (o : Option Order) → order_of m.body ≡ o → CanOrder v o
+        order None is = tt
+        order (Some o) is = bank_laws.can_post v.lines h n m o v.banks core.legal run found is core.banks_stand
+
+-- ---- one entry more
+
+still_open : (v : Tables) (h : History) (e : Entry) → IsCore h v → is_closed (e ∷ h) ≡ false → v.closed ≡ is_closed (e ∷ h)
+still_open v h e core run = core.closed_is ∙ (or_parts (is_close e.call) (is_closed h) run).1 ∙ sym run
+
+-- an entry of a shard of transactions
+pub commit_txn : (h : History) (e : Entry) (v : Tables) (x : Placed) (txns : List Shard) → IsCore h v → is_closed (e ∷ h) ≡ false → Legal v.lines (e ∷ h) → MakesIn v.lines (rows_all v.txns) e.call (message_of h e.call) e.at x
+    → rows_all txns ≡ rows_with (rows_all v.txns) x.place x.plan.change → IsCore (e ∷ h) (record { lines = v.lines; txns = txns; banks = v.banks; flight = v.flight; closed = v.closed })
+commit_txn h e v x txns core run legal makes rows =
+    let owner = sym (owner_is_with h e.call) ∙ makes.owner in
+    record {
+      accepted = core.accepted;
+      legal = legal;
+      txns_stand = subst (λ (rss : List (List Course)). StandTxns v.lines (entries_in (e ∷ h)) rss) (sym rows) (txn_laws.commits v.lines h e (rows_all v.txns) x legal run core.txns_stand makes);
+      banks_stand = bank_laws.others v.lines h e x.place v.banks run owner core.banks_stand;
+      flight_is = core.flight_is ∙ sym (bank_laws.flight_stays v.lines h e x.place core.accepted legal run owner);
+      closed_is = still_open v h e core run;
+    }
+
+-- an order that is delivered
+pub commit_leg : (h : History) (e : Entry) (v : Tables) (x s : Plan) (banks : List Ledger) (money : ℕ) → IsCore h v → is_closed (e ∷ h) ≡ false → Legal v.lines (e ∷ h) → IsLegOf e.call (message_of h e.call) x
+    → x.order ≡ s.order → IsPlannedIn v.banks s
+    → ((S : Setup) (orders : ℕ → List Order) → StandAll S orders v.banks → StandAll S (with_order s.order orders) banks)
+    → ((now : ℕ) → now ≤ 65_536_000_000_000 → FlightMoves s.moved v.flight now → money ≡ now)
+    → IsCore (e ∷ h) (record { lines = v.lines; txns = v.txns; banks = banks; flight = money; closed = v.closed })
+commit_leg h e v x s banks money core run legal leg same planned stands moves =
+    let before : is_closed h ≡ false = (or_parts (is_close e.call) (is_closed h) run).1 in
+    let found : message_at h leg.n ≡ Some leg.message = ap (message_of h) (sym leg.call) ∙ leg.has in
+    let is : order_of leg.message.body ≡ Some s.order = leg.answers.order_is ∙ ap (λ (o : Order). Some o) same in
+    let owner : owner_of h e.call ≡ Owner.Accounts (account_shard s.order.ac) =
+    given_owner h e.call s.order (record { n = leg.n; m = leg.message; delivers = leg.call; found = found; is = is }) in
+    record {
+      accepted = core.accepted;
+      legal = legal;
+      txns_stand = txn_laws.others v.lines h e (account_shard s.order.ac) (rows_all v.txns) run owner core.txns_stand;
+      banks_stand = bank_laws.delivers v.lines h e leg.n leg.message s.order banks before leg.call found is (stands v.lines (orders_in v.lines h) core.banks_stand);
+      flight_is = moves (flight v.lines (e ∷ h)) (bank_laws.flight_bounded v.lines (e ∷ h))
+          (subst (λ (n : ℕ). FlightMoves s.moved n (flight v.lines (e ∷ h))) (sym core.flight_is)
+          (bank_laws.flight_moves v.lines h e leg.n leg.message s v.banks core.accepted legal before leg.call found is core.banks_stand planned));
+      closed_is = still_open v h e core run;
+    }
+
+-- the first Close
+pub commit_close : (h : History) (e : Entry) (v : Tables) (ms : List Sent) (banks : List Ledger) (money : ℕ) → IsCore h v → is_closed h ≡ false → e.call ≡ Call.Close → Legal v.lines (e ∷ h) → ms ≡ all_return v.lines (rows_all v.txns)
+    → ((S : Setup) (before : ℕ → List Order) → StandAll S before v.banks → StandAll S (with_messages ms before) banks)
+    → (StandAll v.lines (orders_in v.lines (e ∷ h)) banks → money ≡ flight v.lines (e ∷ h))
+    → IsCore (e ∷ h) (record { lines = v.lines; txns = v.txns; banks = banks; flight = money; closed = true })
+commit_close h e v ms banks money core run call legal returns stands left =
+    let shut : is_closed (e ∷ h) ≡ true = ap (λ (c : Call). is_close c || is_closed h) call in
+    let all : StandAll v.lines (orders_in v.lines (e ∷ h)) banks =
+    bank_laws.closes v.lines h e banks run call
+    (subst (λ (xs : List Sent). StandAll v.lines (with_messages xs (orders_in v.lines h)) banks) (returns ∙ txn_laws.returns v.lines h (rows_all v.txns) core.txns_stand) (stands v.lines (orders_in v.lines h) core.banks_stand)) in
+    record {
+      accepted = core.accepted;
+      legal = legal;
+      txns_stand = txn_laws.rests v.lines h e (rows_all v.txns) shut core.txns_stand;
+      banks_stand = all;
+      flight_is = left all;
+      closed_is = sym shut;
+    }
+
+-- an entry after it
+pub rests : (h : History) (e : Entry) (v : Tables) → IsCore h v → is_closed h ≡ true → Legal v.lines (e ∷ h) → IsCore (e ∷ h) v
+rests h e v core closed legal =
+    let shut : is_closed (e ∷ h) ≡ true = or_right (is_close e.call) (is_closed h) closed in
+    record {
+      accepted = core.accepted;
+      legal = legal;
+      txns_stand = txn_laws.rests v.lines h e (rows_all v.txns) shut core.txns_stand;
+      banks_stand = bank_laws.rests v.lines h e v.banks closed core.banks_stand;
+      flight_is = core.flight_is ∙ sym (bank_laws.flight_rests v.lines h e closed);
+      closed_is = core.closed_is ∙ closed ∙ sym shut;
+    }
