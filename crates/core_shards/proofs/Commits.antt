@@ -2,6 +2,7 @@
 use Rattle.std.proofs.Common.{◌≡◌, ℕ, ◌≤◌, Bool, true, false, cond, List, [], ◌∷◌, map, Option, Some, None, refl, sym, ap, subst, ◌∙◌}
 use Rattle.std.specs.Prelude.{◌||◌, is_some}
 use Rattle.std.proofs.lemmas.Bool.{and_parts, or_parts, or_right}
+use Rattle.upi_base.specs.Setup.{is_setup}
 use Rattle.upi_base.specs.Shards.{account_shard}
 use Rattle.upi_words.specs.Prelude.{Call, Entry, Order, Owner, Sent, Setup, History, Legal, flight, is_closed}
 use Rattle.upi_model.specs.Accounts.{order_of}
@@ -12,7 +13,7 @@ use Rattle.upi_model.specs.Owners.{message_of, owner_of}
 use Rattle.upi_laws.proofs.Accounts.{given_owner}
 use Rattle.leg_post.specs.Posts.{Ledger}
 use Rattle.account_shard.specs.Closing.{all_returns}
-use Rattle.account_shard.specs.Shard.{Plan}
+use Rattle.account_shard.specs.Shard.{IsPlanOf, Plan}
 use Rattle.bank_shards.specs.Banks.{StandAll, IsPlannedIn, with_messages, with_order, without_room}
 use Rattle.bank_shards.specs.Flights.{FlightMoves}
 use Rattle.bank_shards.specs.Histories.{orders_in}
@@ -23,7 +24,8 @@ use Rattle.txn_row.specs.Rows.{Course}
 use Rattle.txn_shard.specs.Rows.{Shard}
 use Rattle.txn_shards.specs.Txns.{StandTxns, MakesIn, Placed, all_return, entries_in, rows_all, rows_with}
 use Rattle.txn_shards.proofs.Gathered.{txn_laws}
-use Rattle.core_shards.specs.Steps.{CanOrder, CanPlan, IsLegOf}
+use Rattle.core_shards.specs.declared.step.{Step.Step}
+use Rattle.core_shards.specs.Steps.{CanOrder, CanPlan, IsDefined, IsLegOf}
 use Rattle.core_shards.specs.Tables.{IsCore, Tables}
 
 -- what changes nothing but room leaves the tables standing
@@ -36,6 +38,18 @@ core_same h v txns banks rows room core = record {
   banks_stand = stand_same v.lines (orders_in v.lines h) v.banks banks room core.banks_stand;
   flight_is = core.flight_is;
   closed_is = core.closed_is;
+}
+
+-- before the first entry
+pub core_begins : (lines : Setup) (txns : List Shard) (banks : List Ledger) → is_setup lines ≡ true → StandTxns lines (entries_in []) (rows_all txns) → StandAll lines (λ (s : ℕ). []) banks
+    → IsCore [] (record { lines = lines; txns = txns; banks = banks; flight = 0; closed = false })
+core_begins lines txns banks accepted stand all = record {
+  accepted = accepted;
+  legal = tt;
+  txns_stand = stand;
+  banks_stand = bank_laws.begins lines banks all;
+  flight_is = refl;
+  closed_is = refl;
 }
 
 -- ---- which calls can be planned
@@ -58,6 +72,20 @@ can_plan h v (Call.Deliver n) core run going comes = go (message_at h n) refl (a
         order : (o : Option Order) → order_of m.body ≡ o → CanOrder v o
         order None is = tt
         order (Some o) is = bank_laws.can_post v.lines h n m o v.banks core.legal run found is core.banks_stand
+
+-- ---- what is planned is what the definitions say
+
+pub txn_defined : (h : History) (v : Tables) (c : Call) (m : Option Sent) (now : ℕ) (x : Placed) → is_close c ≡ false → MakesIn v.lines (rows_all v.txns) c m now x → IsCore h v → is_closed h ≡ false → message_of h c ≡ m → IsDefined v.lines h c now (Step.Txn x)
+txn_defined h v c m now x going makes core run has =
+    let k = txn_laws.plans v.lines h c now (rows_all v.txns) x core.legal run going core.txns_stand (subst (λ (y : Option Sent). MakesIn v.lines (rows_all v.txns) c y now x) (sym has) makes) in
+    record { replies = k.replies; sends = k.sends }
+
+pub leg_defined : (h : History) (v : Tables) (n : ℕ) (m : Sent) (now : ℕ) (x : Plan)
+    → ((S : Setup) (h : History) (n now : ℕ) → Legal S h → is_closed h ≡ false → message_at h n ≡ Some m → StandAll S (orders_in S h) v.banks → IsPlanOf S h n now x)
+    → IsCore h v → is_closed h ≡ false → message_of h (Call.Deliver n) ≡ Some m → IsDefined v.lines h (Call.Deliver n) now (Step.Leg x)
+leg_defined h v n m now x plans core run has =
+    let k = plans v.lines h n now core.legal run has core.banks_stand in
+    record { replies = k.replies; sends = k.sends }
 
 -- ---- one entry more
 

@@ -5,8 +5,8 @@
 //! always succeeds. Contracts see the tables. For which history they stand is a relation (`IsCore`).
 #![tactic(auto)]
 
-pub mod laws;
 mod close;
+pub mod laws;
 mod money;
 mod step;
 mod tables;

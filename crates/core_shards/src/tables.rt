@@ -3,7 +3,6 @@ ghost use Rattle.std.specs.Prelude.{◌≡◌, ◌∷◌, [], ℕ, Some, false, 
 ghost use Rattle.std.specs.Option.{option_copied};
 ghost use Rattle.upi_words.specs.Prelude.{Call as ACall, Entry, History, Legal, is_closed};
 ghost use Rattle.upi_model.specs.Accounts.{order_of};
-
 ghost use Rattle.upi_model.specs.Owners.{message_of};
 ghost use Rattle.core_shards.specs.Steps.{CanOrder, CanPlan, IsDefined, IsStep, IsStepOf, without_sent};
 ghost use Rattle.core_shards.specs.Tables.{IsCore};
@@ -57,14 +56,11 @@ fn is_order(message: &Sent) -> bool
 impl CoreShards {
     /// The tables of a setup, before the first entry. Accounts and transactions are hashed with
     /// `hashes`. It fails only for want of memory.
-    pub fn new(
-        alloc: Global,
-        hashes: RandomState,
-        dir: Directory,
-    ) -> Result<CoreShards, NoMemory>
+    pub fn new(alloc: Global, hashes: RandomState, dir: Directory) -> Result<CoreShards, NoMemory>
         ensures lines { IfOk result (λ c. c.lines ≡ dir.lines) }
         ensures core { IfOk result (IsCore []) }
     {
+        let _accepted = dir.setup();
         let banks = BankShards::over(alloc, hashes, &dir)?;
         let txns = TxnShards::new(alloc, hashes)?;
         Ok(CoreShards {

@@ -91,7 +91,6 @@ fn order_at(
 }
 
 /// Adds the order for a leg, to the bank at which it is posted. It fails only for want of memory.
-
 pub fn order(dir: &Directory, terms: &PayReq, leg: Leg, out: &mut Vec<Sent>) -> Result<(), NoMemory>
     ensures { OnOk result (out.new.items ≡ out.old.items ++ Sending.order dir.now.lines terms.now leg) }
 {

@@ -79,7 +79,6 @@ pub(crate) fn asked(terms: &PayReq) -> &[u8]
 }
 
 /// The account at an address, if the directory has it.
-
 pub(crate) fn account<'a>(dir: &'a Directory, addr: &Addr) -> Option<&'a AccountRef>
     ensures { option_copied result ≡ Parts.account_ref dir.now.lines addr.now }
 {
@@ -139,7 +138,6 @@ fn pays_itself(dir: &Directory, terms: &PayReq) -> bool
 
 /// The first rule that a payment breaks, of a PSP that asks for it where its shard has opened so
 /// many; `None` exactly where it breaks none.
-
 pub fn refusal(dir: &Directory, room: usize, psp: &PspName, terms: &PayReq) -> Option<Code>
     ensures { result ≡ Places.refusal_at dir.now.lines room psp.now terms.now }
 {
@@ -168,7 +166,6 @@ fn first_broken(dir: &Directory, room: usize, psp: &PspName, terms: &PayReq) -> 
 }
 
 /// Whether the accounts that an answer gives are the directory's.
-
 pub(crate) fn accounts_agree(dir: &Directory, terms: &PayReq, word: &AuthWord) -> bool
     ensures { result ≡ Places.accounts_agree dir.now.lines terms.now word.now }
 {

@@ -1,7 +1,7 @@
 -- The laws of shards of transactions, gathered.
 use Rattle.txn_shard.specs.ShardLaws.{ShardLaws}
 use Rattle.txn_shard.proofs.Legal as legal
-use Rattle.txn_shard.proofs.Reads as reads
+use Rattle.txn_shard.proofs.Told as told
 
 pub shard_laws : ShardLaws
 shard_laws = record {
@@ -9,8 +9,8 @@ shard_laws = record {
   plans = legal.plans;
   commits = legal.commits;
   others = legal.others;
-  outcomes = reads.outcomes;
-  dues = reads.dues;
-  closed_outcomes = reads.closed_outcomes;
-  returns = reads.returns;
+  outcomes = told.outcomes;
+  dues = told.dues;
+  closed_outcomes = told.closed_outcomes;
+  returns = told.returns;
 }

@@ -2,7 +2,7 @@
 use Rattle.std.proofs.Common.{◌≡◌, ℕ, Bool, true, false, cond, List, [], ◌∷◌, ◌++◌, Option, Some, None, refl, sym, ap, subst, ◌∙◌, append-nil}
 use Rattle.std.specs.Prelude.{◌&&◌, not, is_some, is_none}
 use Rattle.std.specs.List.{AllByRecursion, list_any}
-use Rattle.std.specs.Option.{option_map}
+use Rattle.std.specs.Option.{option_map, option_or}
 use Rattle.std.specs.Str.{bytes_eq}
 use Rattle.upi_words.specs.Prelude.{Answer, AuthWord, Body, Event, Leg, Opening, PayReq, Said, Sent, Setup, Text}
 use Rattle.upi_base.specs.Lists.{joined, pick, when}
@@ -68,11 +68,11 @@ here_after S s c p here = record { its_shard = here.its_shard; inside = here.ins
 -- the row that a name finds is the shard's
 here_at : (S : Setup) (s : ℕ) (rows : List Course) (t : Text) (c : Course) → row_at rows t ≡ Some c → AllByRecursion (IsHere S s) rows → IsHere S s c
 here_at S s [] t c is all = absurd cc
-here_at S s (d ∷ ds) t c is all = go (has_id t d.opening) is
+here_at S s (d ∷ ds) t c is all = go (has_id t d.opening) is (λ k. here_at S s ds t c k all.1)
   where
-    go : (b : Bool) → (cond b (Some d) (row_at ds t)) ≡ Some c → IsHere S s c
-    go true found = let same : d ≡ c = cc in subst (IsHere S s) same all.0
-    go false found = here_at S s ds t c found all.1
+    go : (b : Bool) → option_or (when b d) (row_at ds t) ≡ Some c → (row_at ds t ≡ Some c → IsHere S s c) → IsHere S s c
+    go true found rest = let same : d ≡ c = cc in subst (IsHere S s) same all.0
+    go false found rest = rest found
 
 module _ (S : Setup) (s : ℕ) (rows : List Course) (e : Event) (m : Option Sent) (now : ℕ) (c : Course) (turn : Turn) (mine : List Deed) where
   -- what the turn is by the entries

@@ -10,10 +10,13 @@ use Rattle.upi_base.specs.Lists.{when}
 use Rattle.upi_base.proofs.Options.{or_none}
 use Rattle.upi_model.specs.Places.{has_id}
 use Rattle.upi_model.proofs.Openings.{all_append}
+use Rattle.indexmap.specs.IndexMap.{insert_entry}
 use Rattle.vpa_directory.proofs.Additions.{eq_sym}
 use Rattle.expiry_clock.specs.Dues.{Dues, moment_of}
 use Rattle.txn_row.specs.declared.turn.{Progress.Progress}
-use Rattle.txn_row.specs.Rows.{Course, after, due_in}
+use Rattle.txn_row.specs.Rows.{Course, IsRow, after, due_in}
+use Rattle.txn_shard.specs.declared.step.{Change.Change}
+use Rattle.txn_shard.specs.Shard.{CanGo}
 use Rattle.txn_shard.specs.Rows.{row_at, row_if, due_at, turned, IsKeyed, IsKept}
 use Rattle.txn_shard.proofs.Tables.{name_is, row_named, row_more, row_turned}
 
@@ -54,6 +57,23 @@ kept_more es old new c kept none moments = record {
         kept.dues_are q
         ∙ ap (option_and_then due_in) (sym (row_more rows c q ∙ ap (λ (v : Bool). option_or (row_at rows q) (when v c)) away ∙ or_none (row_at rows q)))
 
+-- a name that the table doesn't have goes last
+insert_new : (es : List (Text × Course)) (k : Text) (c : Course) → None ≡ lookup (bytes_eq k) es → insert_entry bytes_eq es k c ≡ es ++ (k, c) ∷ []
+insert_new [] k c none = refl
+insert_new (e ∷ es) k c none = go (bytes_eq k e.0) none (λ n. insert_new es k c n)
+  where
+    go : (b : Bool) → None ≡ cond b (Some e.1) (lookup (bytes_eq k) es) → (None ≡ lookup (bytes_eq k) es → insert_entry bytes_eq es k c ≡ es ++ (k, c) ∷ [])
+        → cond b ((e.0, c) ∷ es) (e ∷ insert_entry bytes_eq es k c) ≡ e ∷ es ++ (k, c) ∷ []
+    go true never rest = absurd cc
+    go false none rest = ap (λ (xs : List (Text × Course)). e ∷ xs) (rest none)
+
+-- the table after the row was put under its name
+pub added_is : (es new : List (Text × Course)) (k : Text) (c : Course) → IsKeyed es → row_at (values_of es) c.opening.terms.txn ≡ None → k ≡ c.opening.terms.txn → new ≡ insert_entry bytes_eq es k c
+    → new ≡ es ++ (c.opening.terms.txn, c) ∷ []
+added_is es new k c keyed none named is =
+    is ∙ ap (λ (u : Text). insert_entry bytes_eq es u c) named
+    ∙ insert_new es c.opening.terms.txn c (sym (found_row es c.opening.terms.txn keyed ∙ none))
+
 -- ---- a row that comes further
 
 -- the table with the row's new progress, where it finds the row
@@ -74,11 +94,11 @@ values_turned (e ∷ es) t p c keyed found = go (bytes_eq t e.0) refl (has_id t 
 
 keyed_turned : (es : List (Text × Course)) (t : Text) (p : Progress) (c : Course) → IsKeyed es → Some c ≡ lookup (bytes_eq t) es → IsKeyed (set_value (bytes_eq t) es (after c p))
 keyed_turned [] t p c keyed found = tt
-keyed_turned (e ∷ es) t p c keyed found = go (bytes_eq t e.0) found
+keyed_turned (e ∷ es) t p c keyed found = go (bytes_eq t e.0) found (λ k. keyed_turned es t p c keyed.1 k)
   where
-    go : (a : Bool) → Some c ≡ cond a (Some e.1) (lookup (bytes_eq t) es) → IsKeyed (cond a ((e.0, after c p) ∷ es) (e ∷ set_value (bytes_eq t) es (after c p)))
-    go true is = let same : e.1 ≡ c = cc in (keyed.0 ∙ ap (λ (d : Course). d.opening.terms.txn) same, keyed.1)
-    go false is = (keyed.0, keyed_turned es t p c keyed.1 is)
+    go : (a : Bool) → Some c ≡ cond a (Some e.1) (lookup (bytes_eq t) es) → (Some c ≡ lookup (bytes_eq t) es → IsKeyed (set_value (bytes_eq t) es (after c p))) → IsKeyed (cond a ((e.0, after c p) ∷ es) (e ∷ set_value (bytes_eq t) es (after c p)))
+    go true is rest = let same : e.1 ≡ c = cc in (keyed.0 ∙ ap (λ (d : Course). d.opening.terms.txn) same, keyed.1)
+    go false is rest = (keyed.0, rest is)
 
 pub kept_turned : (es : List (Text × Course)) (old new : Dues) (t : Text) (p : Progress) (c : Course) → IsKept es old → Some c ≡ lookup (bytes_eq t) es
     → ((q : Text) → moment_of new q ≡ (if bytes_eq t q then due_in (after c p) else moment_of old q)) → IsKept (set_value (bytes_eq t) es (after c p)) new
@@ -100,3 +120,11 @@ kept_turned es old new t p c kept found moments = record {
     go q false away =
         kept.dues_are q
         ∙ ap (λ (v : Bool). option_and_then due_in (cond v (option_map (λ (d : Course). after d p) (row_at rows q)) (row_at rows q))) (sym away)
+
+-- ---- whether the row can come further
+
+pub never_goes : (es : List (Text × Course)) (t : Text) (p : Progress) → IsKeyed es → None ≡ lookup (bytes_eq t) es → CanGo (row_at (values_of es) t) (Change.Goes t p) → ⊥
+never_goes es t p keyed none can = subst (λ (r : Option Course). CanGo r (Change.Goes t p)) (sym (none ∙ found_row es t keyed)) can
+
+pub can_go : (es : List (Text × Course)) (t : Text) (p : Progress) (c : Course) → IsKeyed es → Some c ≡ lookup (bytes_eq t) es → CanGo (row_at (values_of es) t) (Change.Goes t p) → IsRow (after c p)
+can_go es t p c keyed found can = subst (λ (r : Option Course). CanGo r (Change.Goes t p)) (sym (found ∙ found_row es t keyed)) can

@@ -1,9 +1,10 @@
 pub mod Tables
 pub mod Kept
+pub mod Lists
 pub mod Quiet
 pub mod Goes
 pub mod Opening
-pub mod Reads
+pub mod Told
 pub mod Legal
 pub mod Plans
 pub mod Gathered

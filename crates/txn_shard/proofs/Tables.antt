@@ -11,7 +11,7 @@ use Rattle.upi_words.specs.Prelude.{Opening, Text}
 use Rattle.upi_base.specs.Lists.{when, pick}
 use Rattle.upi_model.specs.Places.{has_id, if_of}
 use Rattle.upi_model.specs.Structure.{AreApart}
-use Rattle.upi_model.proofs.Openings.{all_append}
+use Rattle.upi_model.proofs.Openings.{all_append, or_false}
 use Rattle.txn_row.specs.declared.turn.{Progress.Progress}
 use Rattle.txn_row.specs.Rows.{Course, after}
 use Rattle.txn_shard.specs.Rows.{openings, row_if, row_at, turned}
@@ -27,11 +27,11 @@ name_is a b is = (bytes_eq-Decides a b).0 is
 -- it has the name
 pub row_named : (rows : List Course) (t : Text) (c : Course) → row_at rows t ≡ Some c → c.opening.terms.txn ≡ t
 row_named [] t c is = absurd cc
-row_named (d ∷ ds) t c is = go (has_id t d.opening) refl is
+row_named (d ∷ ds) t c is = go (has_id t d.opening) refl is (λ k. row_named ds t c k)
   where
-    go : (b : Bool) → has_id t d.opening ≡ b → option_or (when b d) (row_at ds t) ≡ Some c → c.opening.terms.txn ≡ t
-    go true named found = let same : d ≡ c = cc in ap (λ (x : Course). x.opening.terms.txn) (sym same) ∙ name_is d.opening.terms.txn t named
-    go false named found = row_named ds t c found
+    go : (b : Bool) → has_id t d.opening ≡ b → option_or (when b d) (row_at ds t) ≡ Some c → (row_at ds t ≡ Some c → c.opening.terms.txn ≡ t) → c.opening.terms.txn ≡ t
+    go true named found rest = let same : d ≡ c = cc in ap (λ (x : Course). x.opening.terms.txn) (sym same) ∙ name_is d.opening.terms.txn t named
+    go false named found rest = rest found
 
 -- whether there is one is whether the name was opened
 pub row_opened : (rows : List Course) (t : Text) → option_map (λ (c : Course). c.opening) (row_at rows t) ≡ pick (if_of t) (openings rows)
@@ -42,6 +42,10 @@ row_opened (c ∷ cs) t = go (has_id t c.opening) (row_opened cs t)
         → option_map (λ (c : Course). c.opening) (option_or (when b c) (row_at cs t)) ≡ option_or (when b c.opening) (pick (if_of t) (openings cs))
     go true rest = refl
     go false rest = rest
+
+-- an event that names what the name finds names its transaction
+pub names_row : (rows : List Course) (t : Text) (c : Course) → Some c ≡ row_at rows t → bytes_eq t c.opening.terms.txn ≡ true
+names_row rows t c at = ap (λ (u : Text). bytes_eq t u) (row_named rows t c (sym at)) ∙ self_is t
 
 -- ---- a row that comes further
 
@@ -85,11 +89,11 @@ row_turned t u p (c ∷ cs) = go (has_id t c.opening) refl (has_id u c.opening) 
 -- what holds of rows, and of each whatever its progress, holds of them then
 pub all_turned : (P : Course → Type 0) → ((c : Course) (p : Progress) → P c → P (after c p)) → (t : Text) (p : Progress) (rows : List Course) → AllByRecursion P rows → AllByRecursion P (turned t p rows)
 all_turned P keeps t p [] all = tt
-all_turned P keeps t p (c ∷ cs) all = go (has_id t c.opening)
+all_turned P keeps t p (c ∷ cs) all = go (has_id t c.opening) (all_turned P keeps t p cs all.1)
   where
-    go : (b : Bool) → AllByRecursion P (cond b (after c p ∷ cs) (c ∷ turned t p cs))
-    go true = (keeps c p all.0, all.1)
-    go false = (all.0, all_turned P keeps t p cs all.1)
+    go : (b : Bool) → AllByRecursion P (turned t p cs) → AllByRecursion P (cond b (after c p ∷ cs) (c ∷ turned t p cs))
+    go true rest = (keeps c p all.0, all.1)
+    go false rest = (all.0, rest)
 
 -- ---- a row more
 
@@ -113,12 +117,8 @@ openings_more (d ∷ ds) c = ap (λ (xs : List Opening). d.opening ∷ xs) (open
 pub apart_more : (os : List Opening) (o : Opening) → list_any (has_id o.terms.txn) os ≡ false → AreApart os → AreApart (os ++ o ∷ [])
 apart_more [] o new apart = (tt, tt)
 apart_more (q ∷ qs) o new apart =
-    let p = both_no (has_id o.terms.txn q) (list_any (has_id o.terms.txn) qs) new in
+    let p = or_false (has_id o.terms.txn q) (list_any (has_id o.terms.txn) qs) new in
     (all_append (λ (x : Opening). has_id x.terms.txn q ≡ false) qs (o ∷ []) apart.0 (p.0, tt), apart_more qs o p.1 apart.1)
-  where
-    both_no : (a b : Bool) → cond a true b ≡ false → (a ≡ false) × (b ≡ false)
-    both_no true b is = absurd cc
-    both_no false b is = (refl, is)
 
 -- ---- each row is what its name finds
 

@@ -59,7 +59,8 @@ impl TxnShard {
         ensures rows { self.new.rows ≡ rows_after self.old.rows step.change }
         ensures room { self.old.spare ≤ self.new.spare + 1 }
     {
-        match step.change {
+        let change = step.change;
+        match change {
             Change::Still => {}
             Change::Opens(row) => self.add(row),
             Change::Goes(txn, progress) => self.go(txn, progress),

@@ -112,7 +112,26 @@ impl TxnShard {
             }
             Body::Confirmed { txn } => self.model_was_told(dir, message, txn),
             Body::LegAnswer { txn, leg, answer } => self.hear_leg(dir, txn, *leg, *answer, now),
-            _ => self.told(dir, message),
+            Body::ReqAuth(_question) => self.told(dir, message),
+            Body::Result {
+                txn: _txn,
+                kind: _kind,
+                outcome: _outcome,
+                req_msg: _req_msg,
+            } => self.told(dir, message),
+            Body::Confirm {
+                txn: _txn,
+                kind: _kind,
+                outcome: _outcome,
+            } => self.told(dir, message),
+            Body::Order {
+                txn: _txn,
+                leg: _leg,
+                amount: _amount,
+                ac: _ac,
+                addr: _addr,
+                extra: _extra,
+            } => self.told(dir, message),
         }
     }
 

@@ -1,7 +1,4 @@
 //! Transactions played in a shard, from the Hear to the outcome.
-ghost use Rattle.std.specs.Prelude.{IfSome};
-ghost use Rattle.txn_shard.specs.Shard.{IsPlanned};
-
 use crate::{Step, TxnShard};
 use std::alloc::Global;
 use std::hash::RandomState;
@@ -9,13 +6,14 @@ use std::test::Fail;
 use upi_base::{
     AccountRef, Addr, Answer, BankCode, Body, Boxed, Chk, Code, Head, Input, Kind, Leg, Message,
     Moment, MsgId, OrgId, Outcome, Paise, Party, PayReq, Policy, PspName, Reply, Sent, SetupLine,
-    TxnId, Ver,
+    ShardCall, TxnId, Ver,
 };
 use vpa_directory::Directory;
 
 // What is done at a moment, and what it must come to: the reply, and how many messages are sent.
-// `HEAR` is the payment of ann at alpha to bob at beta, `LAST` the delivery of the message that was
-// sent last, `CHECK` ann's question for the status; a bank's answer is given by its leg.
+// `PAY` and `COLLECT` ask for the payment of ann at alpha to bob at beta, of an amount in paise;
+// `CHECK` is ann's question for the status; `LAST` is the delivery of the message that was sent last,
+// `LOSE` its loss; a bank says that it posted a leg.
 const PAY: &str = "0 PAY 3000 OK 1
 0 PAY 3000 OK 0
 0 PAY 3001 DUP 0
@@ -32,6 +30,7 @@ const PAY: &str = "0 PAY 3000 OK 1
 35 LATE - DONE 1
 36 LAST - TOLD 1
 37 LAST - OK 0
+38 LOSE - LOST 0
 65 LATE - NOTDUE 0";
 
 // A COLLECT that is answered too late.
@@ -173,41 +172,45 @@ fn told(reply: &Reply) -> &'static str {
         Reply::Told => "TOLD",
         Reply::Acted => "DONE",
         Reply::NotDue => "NOTDUE",
+        Reply::Lost => "LOST",
         _ => "another reply",
     }
 }
 
-fn planned(
-    alloc: Global,
-    shard: &mut TxnShard,
-    dir: &Directory,
-    last: &Option<Sent>,
-    line: &str,
-) -> Option<Step>
-    ensures { IfSome result (λ p. IsPlanned shard.new p) }
-{
-    let now = Moment::of(number_at(line, 0)?)?;
-    let alpha = PspName::read(b"alpha")?;
-    match word_at(line, 1) {
-        "PAY" => {
-            let input = payment(alloc, Kind::Pay, number_at(line, 2)?)?;
-            shard.plan_heard(dir, &alpha, &input, now).ok()
-        }
-        "COLLECT" => {
-            let input = payment(alloc, Kind::Collect, number_at(line, 2)?)?;
-            shard
-                .plan_heard(dir, &PspName::read(b"beta")?, &input, now)
-                .ok()
-        }
-        "CHECK" => shard.plan_heard(dir, &alpha, &question()?, now).ok(),
-        "LATE" => shard.plan_late(dir, &TxnId::read(b"T1")?, now).ok(),
-        "DEBIT" => shard.plan_delivered(dir, &posted(Leg::Debit)?, now).ok(),
-        "CREDIT" => shard.plan_delivered(dir, &posted(Leg::Credit)?, now).ok(),
-        _ => shard.plan_delivered(dir, last.as_ref()?, now).ok(),
+fn last_sent(alloc: Global, last: &Option<Sent>) -> Option<Sent> {
+    match last {
+        None => None,
+        Some(sent) => sent.copy(alloc).ok(),
     }
 }
 
-// Whether a line comes to what it must.
+fn hear(psp: &[u8], input: Option<Input>) -> Option<ShardCall> {
+    Some(ShardCall::Hear {
+        psp: PspName::read(psp)?,
+        input: input?,
+    })
+}
+
+fn call(alloc: Global, last: &Option<Sent>, line: &str) -> Option<ShardCall> {
+    match word_at(line, 1) {
+        "PAY" => hear(b"alpha", payment(alloc, Kind::Pay, number_at(line, 2)?)),
+        "COLLECT" => hear(b"beta", payment(alloc, Kind::Collect, number_at(line, 2)?)),
+        "CHECK" => hear(b"alpha", question()),
+        "LATE" => Some(ShardCall::Late(TxnId::read(b"T1")?)),
+        "DEBIT" => Some(ShardCall::Deliver(posted(Leg::Debit)?)),
+        "CREDIT" => Some(ShardCall::Deliver(posted(Leg::Credit)?)),
+        "LOSE" => Some(ShardCall::Lose(last_sent(alloc, last)?)),
+        _ => Some(ShardCall::Deliver(last_sent(alloc, last)?)),
+    }
+}
+
+// Whether a step is what a line says.
+fn is_right(step: &Step, line: &str) -> bool {
+    let count = step.sent().len() as u64;
+    told(step.reply()) == word_at(line, 3) && Some(count) == number_at(line, 4)
+}
+
+// Whether a line comes to what it must; the message that it sends last is kept.
 fn is_played(
     alloc: Global,
     shard: &mut TxnShard,
@@ -215,9 +218,12 @@ fn is_played(
     last: &mut Option<Sent>,
     line: &str,
 ) -> Option<bool> {
-    let mut step = planned(alloc, shard, dir, last, line)?;
-    let count = step.sent().len() as u64;
-    let right = told(step.reply()) == word_at(line, 3) && Some(count) == number_at(line, 4);
+    let call = call(alloc, last, line)?;
+    let now = Moment::of(number_at(line, 0)?)?;
+    let Ok(mut step) = shard.plan(dir, &call, now) else {
+        return None;
+    };
+    let right = is_right(&step, line);
     let mut sent = step.take_sent().into_items();
     if let Some(message) = sent.pop() {
         *last = Some(message);

@@ -3,6 +3,7 @@ use Rattle.std.proofs.Common.{◌≡◌, ℕ, zero, suc, ◌≤◌, Bool, true, 
 use Rattle.std.specs.Prelude.{◌==◌, ◌&&◌, not, slice_get}
 use Rattle.std.specs.List.{AllByRecursion}
 use Rattle.std.proofs.lemmas.Bool.{or_parts}
+use Rattle.upi_base.proofs.Options.{some_same}
 use Rattle.upi_words.specs.Prelude.{Call, Entry, Owner, Sent, Setup, History, Legal, is_closed}
 use Rattle.upi_model.specs.AtClose.{at_close}
 use Rattle.upi_model.specs.Fits.{owner_with}
@@ -10,11 +11,11 @@ use Rattle.upi_model.specs.History.{is_close}
 use Rattle.upi_model.specs.Own.{Deed, deeds, own_deeds}
 use Rattle.upi_model.specs.Owners.{message_of, own, owner_of, same_owner}
 use Rattle.account_shard.specs.Closing.{all_returns}
-use Rattle.bank_shards.proofs.Places.{all_at}
 use Rattle.txn_row.specs.Rows.{Course}
+use Rattle.txn_shard.specs.Rows.{Shard}
 use Rattle.txn_shard.specs.Shard.{Stands, IsPlanOf}
 use Rattle.txn_shard.proofs.Gathered.{shard_laws}
-use Rattle.txn_shards.specs.Txns.{StandTxns, Placed, MakesIn, all_return, entries_in, rows_with}
+use Rattle.txn_shards.specs.Txns.{StandTxns, IsBare, Placed, MakesIn, all_return, entries_in, rows_all, rows_with}
 use Rattle.txn_shards.proofs.Changes.{returns_by, some_at, stand_as, stand_with}
 
 pub owner_is_with : (h : History) (c : Call) → owner_with (message_of h c) c ≡ owner_of h c
@@ -28,10 +29,20 @@ owner_is_with h Call.Close = refl
 placed : (S : Setup) (mine : ℕ → List Deed) (rss : List (List Course)) (c : Call) (m : Option Sent) (now : ℕ) (x : Placed) → StandTxns S mine rss → MakesIn S rss c m now x → (rows : List Course) × (slice_get rss x.place ≡ Some rows)
 placed S mine rss c m now x all makes = some_at rss x.place (let n = all.sixteen in let w = makes.within in omega (arith, n, w))
 
-pub begins : (S : Setup) (rss : List (List Course)) → length rss ≡ 16 → AllByRecursion (λ (rows : List Course). rows ≡ []) rss → StandTxns S (entries_in []) rss
-begins S rss sixteen none = record {
-  sixteen = sixteen;
-  each = λ s rows is. subst (λ (r : List Course). Stands S s [] r) (sym (all_at (λ (r : List Course). r ≡ []) rss s rows none is)) (shard_laws.begins S s);
+bare_at : (xs : List Shard) (s : ℕ) (rows : List Course) → AllByRecursion IsBare xs → slice_get (rows_all xs) s ≡ Some rows → [] ≡ rows
+bare_at [] s rows bare is = absurd cc
+bare_at (x ∷ xs) zero rows bare is = sym bare.0 ∙ some_same x.rows rows is
+bare_at (x ∷ xs) (suc s) rows bare is = bare_at xs s rows bare.1 is
+
+length_rows : (xs : List Shard) → length (rows_all xs) ≡ length xs
+length_rows [] = refl
+length_rows (x ∷ xs) = ap suc (length_rows xs)
+
+-- sixteen shards without rows stand for no entry
+pub begins : (S : Setup) (xs : List Shard) → length xs ≡ 16 → AllByRecursion IsBare xs → StandTxns S (entries_in []) (rows_all xs)
+begins S xs sixteen bare = record {
+  sixteen = length_rows xs ∙ sixteen;
+  each = λ s rows is. subst (λ (r : List Course). Stands S s [] r) (bare_at xs s rows bare is) (shard_laws.begins S s);
 }
 
 pub plans : (S : Setup) (h : History) (c : Call) (now : ℕ) (rss : List (List Course)) (x : Placed) → Legal S h → is_closed h ≡ false → is_close c ≡ false

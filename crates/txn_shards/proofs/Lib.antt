@@ -1,4 +1,5 @@
 pub mod Changes
+pub mod Calls
 pub mod Histories
 pub mod Outcomes
 pub mod Gathered

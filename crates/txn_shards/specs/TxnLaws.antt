@@ -1,6 +1,5 @@
 -- What the sixteen shards of transactions have to do with histories: the laws.
-use Rattle.std.specs.Prelude.{ℕ, ◌≡◌, ◌∷◌, [], true, false, List, length}
-use Rattle.std.specs.List.{AllByRecursion}
+use Rattle.std.specs.Prelude.{ℕ, ◌≡◌, ◌∷◌, true, false, List}
 use Rattle.upi_words.specs.Prelude.{Call, Entry, Owner, Setup, History, Legal, is_closed}
 use Rattle.upi_model.specs.History.{is_close}
 use Rattle.upi_model.specs.Owners.{message_of, owner_of}
@@ -11,8 +10,6 @@ use Rattle.txn_shards.specs.Txns.{StandTxns, Placed, MakesIn, all_return, entrie
 
 -- shards of transactions, and histories
 pub record TxnLaws : Type 0 where
-  -- sixteen shards without rows stand for no entry
-  pub begins : (S : Setup) (rss : List (List Course)) → length rss ≡ 16 → AllByRecursion (λ (rows : List Course). rows ≡ []) rss → StandTxns S (entries_in []) rss
   -- what is planned of a call after a legal history without a Close is what the definitions reply and send
   pub plans : (S : Setup) (h : History) (c : Call) (now : ℕ) (rss : List (List Course)) (x : Placed) → Legal S h → is_closed h ≡ false → is_close c ≡ false
       → StandTxns S (entries_in h) rss → MakesIn S rss c (message_of h c) now x → IsPlanOf S h c now x.plan

@@ -13,6 +13,10 @@ use Rattle.txn_shard.specs.declared.step.{Change.Change}
 abbrev pub rows_of : Shard → List Course
 rows_of x = x.rows
 
+-- a shard has no row yet
+abbrev pub IsBare : Shard → Type 0
+IsBare x = x.rows ≡ []
+
 -- the rows of the sixteen, shard after shard
 abbrev pub rows_all : List Shard → List (List Course)
 rows_all xs = map rows_of xs

@@ -61,12 +61,7 @@ impl TxnShards {
 
     /// Plans a look whether a transaction is due. It takes all memory of the change, and changes
     /// nothing but room.
-    pub fn plan_late(
-        &mut self,
-        dir: &Directory,
-        txn: &TxnId,
-        now: Moment,
-    ) -> Result<Step, NoMemory>
+    pub fn plan_late(&mut self, dir: &Directory, txn: &TxnId, now: Moment) -> Result<Step, NoMemory>
         ensures planned { IfOk result (λ x. IsPlannedIn self.new x) }
         ensures makes { IfOk result (λ x. MakesIn dir.now.lines (rows_all self.old) (Call.Late txn.now) None now x) }
         ensures rows { rows_all self.new ≡ rows_all self.old }

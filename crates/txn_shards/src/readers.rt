@@ -14,7 +14,11 @@ impl TxnShards {
     {
         let place = txn_shard(txn) as usize;
         let shard = &self.shards[place];
-        if closed { shard.closed_outcome(txn) } else { shard.outcome(txn) }
+        if closed {
+            shard.closed_outcome(txn)
+        } else {
+            shard.outcome(txn)
+        }
     }
 
     // Appends the reversals that a Close would make arrive of the shard at a place.

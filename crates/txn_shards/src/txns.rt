@@ -1,9 +1,8 @@
 //! The sixteen shards: made, planned and committed.
-ghost use Rattle.std.specs.Prelude.{◌≡◌, ◌+◌, [], List, map, length, IfOk, OnOk};
+ghost use Rattle.std.specs.Prelude.{◌≡◌, ◌+◌, [], length, IfOk, OnOk};
 ghost use Rattle.std.specs.List.{AllByRecursion};
-ghost use Rattle.txn_row.specs.Rows.{Course};
-ghost use Rattle.txn_shard.specs.Rows.{Shard};
-ghost use Rattle.txn_shards.specs.Txns.{IsPlannedIn, rows_all, rows_with};
+ghost use Rattle.upi_words.specs.Prelude.{Setup};
+ghost use Rattle.txn_shards.specs.Txns.{IsBare, IsPlannedIn, StandTxns, entries_in, rows_all, rows_with};
 
 use crate::step::Step;
 use std::alloc::Global;
@@ -37,9 +36,9 @@ fn fill(
     shards: &mut Vec<TxnShard>,
     count: usize,
 ) -> Result<(), NoMemory>
-    requires { AllByRecursion (λ (rows : List Course). rows ≡ []) (rows_all shards.old.items) }
+    requires { AllByRecursion IsBare shards.old.items }
     ensures count { OnOk result (length shards.new.items ≡ length shards.old.items + count) }
-    ensures fresh { AllByRecursion (λ (rows : List Course). rows ≡ []) (rows_all shards.new.items) }
+    ensures bare { AllByRecursion IsBare shards.new.items }
 {
     for _made in 0..count {
         shards.push(TxnShard::new(alloc, hashes, hashes))?;
@@ -48,11 +47,10 @@ fn fill(
 }
 
 impl TxnShards {
-    /// Sixteen shards with no transaction. Names of transactions are hashed with `hashes`, so whoever
+    /// Sixteen shards with no transaction, which stand for no entry of every setup. Names of transactions are hashed with `hashes`, so whoever
     /// chooses them can't choose them to collide. It fails only for want of memory.
     pub fn new(alloc: Global, hashes: RandomState) -> Result<TxnShards, NoMemory>
-        ensures sixteen { IfOk result (λ t. length (rows_all t) ≡ 16) }
-        ensures fresh { IfOk result (λ t. AllByRecursion (λ (rows : List Course). rows ≡ []) (rows_all t)) }
+        ensures { IfOk result (λ t. (S : Setup) → StandTxns S (entries_in []) (rows_all t)) }
     {
         let mut shards = Vec::new(alloc);
         fill(alloc, hashes, &mut shards, 16)?;
@@ -65,9 +63,7 @@ impl TxnShards {
         ensures { rows_all self.new ≡ rows_with (rows_all self.old) step.place step.plan.change }
     {
         let place = step.place;
-        if place < self.shards.len() {
-            let shard = &mut self.shards[place];
-            shard.commit(step.step);
-        }
+        let shard = &mut self.shards[place];
+        shard.commit(step.step);
     }
 }

@@ -1,11 +1,11 @@
 -- What the private functions answer.
-use Rattle.std.specs.Prelude.{ℕ, ◌≡◌, List, [], ◌∷◌}
+use Rattle.std.specs.Prelude.{ℕ, ◌≡◌, List, [], ◌∷◌, Option, Some, None}
 use Rattle.upi_base.specs.declared.message.AuthResp.{AuthResp}
-use Rattle.upi_words.specs.Prelude.{AuthWord, PayReq, Reply, Sent, Text}
+use Rattle.upi_words.specs.Prelude.{AuthWord, PayReq, Reply, Sent, Setup, Text}
 use Rattle.upi_model.specs.Replies.{ok}
 use Rattle.upi_model.specs.Sending.{question}
 use Rattle.txn_row.specs.declared.turn.{Turn.Turn}
-use Rattle.txn_row.specs.Rows.{Course, Opens}
+use Rattle.txn_row.specs.Rows.{Course, Opens, row_returns}
 use Rattle.txn_shard.specs.declared.step.{Change.Change}
 use Rattle.txn_shard.specs.Shard.{Plan}
 
@@ -31,3 +31,8 @@ pub record IsOpening (r : PayReq) (now : ℕ) (p : Plan) : Type 0 where
 -- the word of an answer
 abbrev pub word_of : AuthResp → AuthWord
 word_of a = record { txn = a.txn; yes = a.yes; amount = a.amount; payer_ac = a.payer_ac; payee_ac = a.payee_ac }
+
+-- the reversal that a Close would make arrive of a row, if there is one
+abbrev pub returned_by : Setup → Option Course → List Sent
+returned_by S None = []
+returned_by S (Some c) = row_returns S c

@@ -7,13 +7,13 @@ use Rattle.txn_shard.proofs.Quiet.{vain_answered}
 use Rattle.txn_shard.proofs.Plans.{going_planned, quiet_planned, makes_same, named_answered}
 use Rattle.txn_shard.proofs.shard.TxnShard.hear_leg.Goals as goal
 
-pub returns-in_ok-turn : goal.returns-in_ok-turn
-returns-in_ok-turn c =
+pub returns-in_ok-turn-in-Some : goal.returns-in_ok-turn-in-Some
+returns-in_ok-turn-in-Some c =
     let S = c.args.dir.now.lines in
     let x = c.args.self.now in
     let t = c.args.txn.now in
-    let turn = c.in_ok-turn.turn in
-    let turns = named_answered S x.rows c.in-Some.row.now t c.args.leg c.args.answer c.args.now turn c.in-Some.ensures c.in_ok-turn.ensures in
+    let turn = c.in_ok-turn-in-Some.turn in
+    let turns = named_answered S x.rows c.in-Some.row.now t c.args.leg c.args.answer c.args.now turn c.in-Some.ensures c.in_ok-turn-in-Some.ensures in
     record {
       planned = going_planned x c.gone.result t c.in-Some.row.now turn c.in-Some.ensures turns.kept c.requires c.gone.ensures;
       makes = λ s m answers. makes_same S s x.rows (Event.Answered t c.args.leg c.args.answer) m c.args.now c.gone.result (going t turn) c.gone.ensures

@@ -6,13 +6,13 @@ use Rattle.txn_shard.proofs.Quiet.{vain_late}
 use Rattle.txn_shard.proofs.Plans.{going_planned, quiet_planned, makes_same, named_late}
 use Rattle.txn_shard.proofs.shard.TxnShard.late.Goals as goal
 
-pub returns-in_ok-turn : goal.returns-in_ok-turn
-returns-in_ok-turn c =
+pub returns-in_ok-turn-in-Some : goal.returns-in_ok-turn-in-Some
+returns-in_ok-turn-in-Some c =
     let S = c.args.dir.now.lines in
     let x = c.args.self.now in
     let t = c.args.txn.now in
-    let turn = c.in_ok-turn.turn in
-    let turns = named_late S x.rows c.in-Some.row.now t c.args.now turn c.in-Some.ensures c.in_ok-turn.ensures in
+    let turn = c.in_ok-turn-in-Some.turn in
+    let turns = named_late S x.rows c.in-Some.row.now t c.args.now turn c.in-Some.ensures c.in_ok-turn-in-Some.ensures in
     record {
       planned = going_planned x c.gone.result t c.in-Some.row.now turn c.in-Some.ensures turns.kept c.requires c.gone.ensures;
       makes = λ s. makes_same S s x.rows (Event.Late t) None c.args.now c.gone.result (going t turn) c.gone.ensures
