@@ -1,15 +1,20 @@
 -- The tables stand for a history, and for the history with one entry more.
 use Rattle.std.proofs.Common.{◌≡◌, ℕ, ◌≤◌, Bool, true, false, cond, List, [], ◌∷◌, map, Option, Some, None, refl, sym, ap, subst, ◌∙◌}
-use Rattle.std.specs.Prelude.{◌||◌, is_some}
+use Rattle.std.specs.Prelude.{◌||◌, is_some, nat_le}
+use Rattle.std.specs.List.{count_by}
+use Rattle.std.specs.Option.{option_and_then}
 use Rattle.std.proofs.lemmas.Bool.{and_parts, or_parts, or_right}
+use Rattle.upi_base.specs.Lists.{when}
 use Rattle.upi_base.specs.Setup.{is_setup}
 use Rattle.upi_base.specs.Shards.{account_shard}
-use Rattle.upi_words.specs.Prelude.{Call, Entry, Order, Owner, Sent, Setup, History, Legal, flight, is_closed}
+use Rattle.upi_words.specs.Prelude.{Call, Entry, Leg, Opening, Order, Owner, Sent, Setup, History, Legal, credit, debit, decision, flight, is_closed, opening, outcome_of}
 use Rattle.upi_model.specs.Accounts.{order_of}
-use Rattle.upi_model.specs.Fits.{owner_with}
-use Rattle.upi_model.specs.History.{is_close, message_at}
+use Rattle.upi_model.specs.DueList.{due_among, insert_due}
+use Rattle.upi_model.specs.Dues.{acknowledged, confirms, due, due_by, due_confirm, last_sent, orders}
+use Rattle.upi_model.specs.History.{is_close, message_at, sent}
 use Rattle.upi_model.specs.Legal.{has_room, may_come, names_known}
 use Rattle.upi_model.specs.Owners.{message_of, owner_of}
+use Rattle.upi_model.specs.Places.{cause_by}
 use Rattle.upi_laws.proofs.Accounts.{given_owner}
 use Rattle.leg_post.specs.Posts.{Ledger}
 use Rattle.account_shard.specs.Closing.{all_returns}
@@ -160,3 +165,18 @@ rests h e v core closed legal =
       flight_is = core.flight_is ∙ sym (bank_laws.flight_rests v.lines h e closed);
       closed_is = core.closed_is ∙ closed ∙ sym shut;
     }
+
+-- ---- what is due after a Close
+
+if_true : {X : Type 0} (b : Bool) (x y : X) → b ≡ true → cond b x y ≡ x
+if_true true x y is = refl
+if_true false x y is = absurd cc
+
+-- nothing is
+pub none_due : (S : Setup) (h : History) (now : ℕ) → is_closed h ≡ true → (os : List Opening) → [] ≡ due_among S h now os
+none_due S h now shut [] = refl
+none_due S h now shut (o ∷ os) =
+    let t = o.terms.txn in
+    let none : due S o.terms.txn h ≡ None = if_true (is_closed h) None (due_by (opening S t h) (outcome_of S t h) (decision S t h) (debit S t h) (cause_by (debit S t h) (credit S t h)) (last_sent (orders t Leg.Reversal) h)
+    (due_confirm (count_by (confirms t) (sent h)) (last_sent (confirms t) h) (acknowledged S t h))) shut in
+    λ i. insert_due (option_and_then (λ (k : ℕ). when (nat_le k now) (k, o.terms.txn)) (sym none i)) (none_due S h now shut os i)

@@ -1,6 +1,7 @@
 //! The Close, and what the tables say.
 ghost use Rattle.std.specs.Prelude.{◌≡◌, ◌∷◌, length, IfOk};
 ghost use Rattle.upi_words.specs.Prelude.{Call, Entry, History, Legal, is_closed, outcome_of};
+ghost use Rattle.upi_model.specs.DueList.{due_list};
 ghost use Rattle.bank_shards.specs.Banks.{HasRoom};
 ghost use Rattle.bank_shards.specs.Histories.{balance_named};
 ghost use Rattle.txn_shards.specs.Txns.{all_return, rows_all};
@@ -68,5 +69,16 @@ impl CoreShards {
         ensures { (h : History) → IsCore h self.now → result ≡ balance_named self.now.lines h ac.now }
     {
         self.banks.balance(ac)
+    }
+
+    /// The transactions whose due moment isn't after this one, with their due moments: by these, then
+    /// by the bytes of their names. After a Close there is none. It fails only for want of memory.
+    pub fn due(&self, now: u64) -> Result<Vec<(u64, TxnId)>, NoMemory>
+        ensures { IfOk result (λ v. (h : History) → IsCore h self.now → v.items ≡ due_list self.now.lines h now) }
+    {
+        if self.closed {
+            return Ok(Vec::new(self.alloc));
+        }
+        self.txns.due(now)
     }
 }

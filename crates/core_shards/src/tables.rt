@@ -21,6 +21,7 @@ use vpa_directory::Directory;
 /// All that a switch keeps, but for its list of entries.
 #[derive(Drop)]
 pub struct CoreShards {
+    pub(crate) alloc: Global,
     pub(crate) dir: Directory,
     pub(crate) txns: TxnShards,
     pub(crate) banks: BankShards,
@@ -64,6 +65,7 @@ impl CoreShards {
         let banks = BankShards::over(alloc, hashes, &dir)?;
         let txns = TxnShards::new(alloc, hashes)?;
         Ok(CoreShards {
+            alloc,
             dir,
             txns,
             banks,

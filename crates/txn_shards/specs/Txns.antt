@@ -1,11 +1,11 @@
 -- What a contract sees of the sixteen shards of transactions: for which entries they stand, and what is planned of a call.
-use Rattle.std.specs.Prelude.{ℕ, zero, suc, ◌≡◌, ◌<◌, List, [], ◌∷◌, Option, Some, None, IsSomeAnd, length, map, slice_get}
+use Rattle.std.specs.Prelude.{ℕ, zero, suc, ◌≡◌, ◌<◌, List, [], ◌∷◌, ◌++◌, Option, Some, None, IsSomeAnd, length, map, slice_get}
 use Rattle.std.specs.List.{flat_map}
-use Rattle.upi_words.specs.Prelude.{Call, Owner, Sent, Setup, History}
+use Rattle.upi_words.specs.Prelude.{Call, Owner, Sent, Setup, History, Text}
 use Rattle.upi_model.specs.Fits.{owner_with}
 use Rattle.upi_model.specs.Own.{Deed, delivered_with, event_with, own_deeds}
 use Rattle.txn_row.specs.Rows.{Course}
-use Rattle.txn_shard.specs.Rows.{Shard, rows_return}
+use Rattle.txn_shard.specs.Rows.{Shard, IsDueOf, rows_return}
 use Rattle.txn_shard.specs.Shard.{Stands, Plan, IsPlanned, MakesAll, rows_after}
 use Rattle.txn_shard.specs.declared.step.{Change.Change}
 
@@ -59,3 +59,9 @@ all_return S rss = flat_map (rows_return S) rss
 abbrev pub returns_of : Setup → Option (List Course) → List Sent
 returns_of S None = []
 returns_of S (Some rows) = rows_return S rows
+
+-- a list with what is due by now of the shard at a place behind it
+pub record Appends (now : ℕ) (rss : List (List Course)) (place : ℕ) (old new : List (ℕ × Text)) : Type 0 where
+  pub found : List (ℕ × Text)
+  pub is : new ≡ old ++ found
+  pub due : (rows : List Course) → slice_get rss place ≡ Some rows → IsDueOf now rows found

@@ -1,7 +1,8 @@
 //! What the shards say of their transactions.
-ghost use Rattle.std.specs.Prelude.{◌≡◌, ◌++◌, ◌<◌, slice_get, IfOk, OnOk};
-ghost use Rattle.upi_words.specs.Prelude.{Setup, History, is_closed, outcome_of};
-ghost use Rattle.txn_shards.specs.Txns.{StandTxns, all_return, entries_in, returns_of, rows_all};
+ghost use Rattle.std.specs.Prelude.{◌≡◌, ◌++◌, ◌<◌, false, slice_get, IfOk, OnOk};
+ghost use Rattle.upi_words.specs.Prelude.{Setup, History, Legal, is_closed, outcome_of};
+ghost use Rattle.upi_model.specs.DueList.{due_list};
+ghost use Rattle.txn_shards.specs.Txns.{StandTxns, Appends, all_return, entries_in, returns_of, rows_all};
 
 use crate::txns::TxnShards;
 use upi_base::{NoMemory, Outcome, Sent, TxnId, txn_shard};
@@ -41,6 +42,35 @@ impl TxnShards {
         for place in 0..16 {
             self.returns_at(dir, place, &mut out)?;
         }
+        Ok(out)
+    }
+
+    // Appends what is due of the shard at a place.
+    fn due_at(
+        &self,
+        now: u64,
+        place: usize,
+        out: &mut Vec<(u64, TxnId)>,
+    ) -> Result<(), NoMemory>
+        requires { place < 16 }
+        ensures { OnOk result (Appends now (rows_all self.now) place out.old.items out.new.items) }
+    {
+        let shard = &self.shards[place];
+        let mut some = shard.due(now)?;
+        out.append(&mut some)?;
+        Ok(())
+    }
+
+    /// The transactions whose due moment isn't after this one, with their due moments: by these, then
+    /// by the bytes of their names. Before a Close only. It fails only for want of memory.
+    pub fn due(&self, now: u64) -> Result<Vec<(u64, TxnId)>, NoMemory>
+        ensures { IfOk result (λ v. (S : Setup) (h : History) → Legal S h → is_closed h ≡ false → StandTxns S (entries_in h) (rows_all self.now) → v.items ≡ due_list S h now) }
+    {
+        let mut out = Vec::new(self.alloc);
+        for place in 0..16 {
+            self.due_at(now, place, &mut out)?;
+        }
+        out.sort_unstable();
         Ok(out)
     }
 }
