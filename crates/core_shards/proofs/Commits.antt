@@ -1,13 +1,13 @@
 -- The tables stand for a history, and for the history with one entry more.
 use Rattle.std.proofs.Common.{◌≡◌, ℕ, ◌≤◌, Bool, true, false, cond, List, [], ◌∷◌, map, Option, Some, None, refl, sym, ap, subst, ◌∙◌}
-use Rattle.std.specs.Prelude.{◌||◌, is_some, nat_le}
+use Rattle.std.specs.Prelude.{◌||◌, is_some, nat_le, IsSomeAnd}
 use Rattle.std.specs.List.{count_by}
 use Rattle.std.specs.Option.{option_and_then}
 use Rattle.std.proofs.lemmas.Bool.{and_parts, or_parts, or_right}
 use Rattle.upi_base.specs.Lists.{when}
 use Rattle.upi_base.specs.Setup.{is_setup}
 use Rattle.upi_base.specs.Shards.{account_shard}
-use Rattle.upi_words.specs.Prelude.{Call, Entry, Leg, Opening, Order, Owner, Sent, Setup, History, Legal, credit, debit, decision, flight, is_closed, opening, outcome_of}
+use Rattle.upi_words.specs.Prelude.{Call, Entry, Input, Leg, Opening, Order, Owner, Sent, Setup, History, Text, Legal, credit, debit, decision, flight, is_closed, opening, outcome_of}
 use Rattle.upi_model.specs.Accounts.{order_of}
 use Rattle.upi_model.specs.DueList.{due_among, insert_due}
 use Rattle.upi_model.specs.Dues.{acknowledged, confirms, due, due_by, due_confirm, last_sent, orders}
@@ -19,7 +19,7 @@ use Rattle.upi_laws.proofs.Accounts.{given_owner}
 use Rattle.leg_post.specs.Posts.{Ledger}
 use Rattle.account_shard.specs.Closing.{all_returns}
 use Rattle.account_shard.specs.Shard.{IsPlanOf, Plan}
-use Rattle.bank_shards.specs.Banks.{StandAll, IsPlannedIn, with_messages, with_order, without_room}
+use Rattle.bank_shards.specs.Banks.{StandAll, CanPostIn, IsPlannedIn, with_messages, with_order, without_room}
 use Rattle.bank_shards.specs.Flights.{FlightMoves}
 use Rattle.bank_shards.specs.Histories.{orders_in}
 use Rattle.bank_shards.proofs.Gathered.{bank_laws}
@@ -84,6 +84,18 @@ pub txn_defined : (h : History) (v : Tables) (c : Call) (m : Option Sent) (now :
 txn_defined h v c m now x going makes core run has =
     let k = txn_laws.plans v.lines h c now (rows_all v.txns) x core.legal run going core.txns_stand (subst (λ (y : Option Sent). MakesIn v.lines (rows_all v.txns) c y now x) (sym has) makes) in
     record { replies = k.replies; sends = k.sends }
+
+-- an order that is one can be posted
+pub can_order : (v : Tables) (x : Option Order) → CanOrder v x → is_some x ≡ true → IsSomeAnd x (λ (o : Order). CanPostIn v.banks o)
+can_order v None can is = absurd cc
+can_order v (Some o) can is = can
+
+-- what a PSP says, and a look whether a transaction is due, are about no message
+pub heard_of : (S : Setup) (rss : List (List Course)) (p : Text) (i : Input) (m : Option Sent) (now : ℕ) (x : Placed) → MakesIn S rss (Call.Hear p i) None now x → MakesIn S rss (Call.Hear p i) m now x
+heard_of S rss p i m now x k = record { owner = k.owner; within = k.within; makes = k.makes }
+
+pub late_of : (S : Setup) (rss : List (List Course)) (t : Text) (m : Option Sent) (now : ℕ) (x : Placed) → MakesIn S rss (Call.Late t) None now x → MakesIn S rss (Call.Late t) m now x
+late_of S rss t m now x k = record { owner = k.owner; within = k.within; makes = k.makes }
 
 pub leg_defined : (h : History) (v : Tables) (n : ℕ) (m : Sent) (now : ℕ) (x : Plan)
     → ((S : Setup) (h : History) (n now : ℕ) → Legal S h → is_closed h ≡ false → message_at h n ≡ Some m → StandAll S (orders_in S h) v.banks → IsPlanOf S h n now x)

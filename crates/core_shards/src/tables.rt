@@ -1,9 +1,10 @@
 //! The tables: made, planned and committed.
-ghost use Rattle.std.specs.Prelude.{◌≡◌, ◌∷◌, [], ℕ, Some, false, is_some, IfOk};
+ghost use Rattle.std.specs.Prelude.{◌≡◌, ◌∷◌, [], ℕ, Option, Some, None, false, is_some, IfOk, IsSomeAnd};
 ghost use Rattle.std.specs.Option.{option_copied};
-ghost use Rattle.upi_words.specs.Prelude.{Call as ACall, Entry, History, Legal, is_closed};
+ghost use Rattle.upi_words.specs.Prelude.{Call as ACall, Entry, Sent as ASent, History, Legal, is_closed};
 ghost use Rattle.upi_model.specs.Accounts.{order_of};
 ghost use Rattle.upi_model.specs.Owners.{message_of};
+ghost use Rattle.bank_shards.specs.Banks.{CanPostIn};
 ghost use Rattle.core_shards.specs.Steps.{CanOrder, CanPlan, IsDefined, IsStep, IsStepOf, without_sent};
 ghost use Rattle.core_shards.specs.Tables.{IsCore};
 ghost use Rattle.core_shards.specs.declared.step.{Step.Step as AStep};
@@ -15,7 +16,7 @@ use std::alloc::Global;
 use std::hash::RandomState;
 use std::marker::Model;
 use txn_shards::TxnShards;
-use upi_base::{Body, Call, Moment, NoMemory, Sent};
+use upi_base::{Body, Call, Input, Moment, NoMemory, PspName, Sent, TxnId};
 use vpa_directory::Directory;
 
 /// All that a switch keeps, but for its list of entries.
@@ -74,6 +75,53 @@ impl CoreShards {
         })
     }
 
+    // Plans what a PSP says.
+    fn plan_heard(&mut self, psp: &PspName, input: &Input, now: Moment) -> Result<Step, NoMemory>
+        ensures planned { IfOk result (λ x. IsStep self.new x) }
+        ensures step { IfOk result (λ x. (m : Option ASent) → IsStepOf self.old (ACall.Hear psp.now input.now) m now x) }
+        ensures defined { IfOk result (λ x. (h : History) → IsCore h self.old → is_closed h ≡ false → IsDefined self.old.lines h (ACall.Hear psp.now input.now) now x) }
+        ensures same { (h : History) → IsCore h self.old → IsCore h self.new }
+    {
+        let step = self.txns.plan_heard(&self.dir, psp, input, now)?;
+        Ok(Step::Txn(step))
+    }
+
+    // Plans a look whether a transaction is due.
+    fn plan_late(&mut self, txn: &TxnId, now: Moment) -> Result<Step, NoMemory>
+        ensures planned { IfOk result (λ x. IsStep self.new x) }
+        ensures step { IfOk result (λ x. (m : Option ASent) → IsStepOf self.old (ACall.Late txn.now) m now x) }
+        ensures defined { IfOk result (λ x. (h : History) → IsCore h self.old → is_closed h ≡ false → IsDefined self.old.lines h (ACall.Late txn.now) now x) }
+        ensures same { (h : History) → IsCore h self.old → IsCore h self.new }
+    {
+        let step = self.txns.plan_late(&self.dir, txn, now)?;
+        Ok(Step::Txn(step))
+    }
+
+    // Plans the delivery of an order.
+    fn plan_order(&mut self, message: &Sent, now: Moment) -> Result<Step, NoMemory>
+        requires { IsSomeAnd (order_of message.now.body) (λ o. CanPostIn self.old.banks o) }
+        ensures planned { IfOk result (λ x. IsStep self.new x) }
+        ensures step { IfOk result (λ x. (n : ℕ) → IsStepOf self.old (ACall.Deliver n) (Some message.now) now x) }
+        ensures defined { IfOk result (λ x. (h : History) (n : ℕ) → IsCore h self.old → is_closed h ≡ false → message_of h (ACall.Deliver n) ≡ Some message.now → IsDefined self.old.lines h (ACall.Deliver n) now x) }
+        ensures same { (h : History) → IsCore h self.old → IsCore h self.new }
+    {
+        let _now = now;
+        let step = self.banks.plan(message)?;
+        Ok(Step::Leg(step))
+    }
+
+    // Plans the delivery of any other message.
+    fn plan_other(&mut self, message: &Sent, now: Moment) -> Result<Step, NoMemory>
+        requires { order_of message.now.body ≡ None }
+        ensures planned { IfOk result (λ x. IsStep self.new x) }
+        ensures step { IfOk result (λ x. (n : ℕ) → IsStepOf self.old (ACall.Deliver n) (Some message.now) now x) }
+        ensures defined { IfOk result (λ x. (h : History) (n : ℕ) → IsCore h self.old → is_closed h ≡ false → message_of h (ACall.Deliver n) ≡ Some message.now → IsDefined self.old.lines h (ACall.Deliver n) now x) }
+        ensures same { (h : History) → IsCore h self.old → IsCore h self.new }
+    {
+        let step = self.txns.plan_delivered(&self.dir, message, now)?;
+        Ok(Step::Txn(step))
+    }
+
     // Plans the delivery of a message.
     fn plan_delivered(&mut self, message: &Sent, now: Moment) -> Result<Step, NoMemory>
         requires { CanOrder self.old (order_of message.now.body) }
@@ -83,12 +131,19 @@ impl CoreShards {
         ensures same { (h : History) → IsCore h self.old → IsCore h self.new }
     {
         if is_order(message) {
-            let step = self.banks.plan(message)?;
-            Ok(Step::Leg(step))
+            self.plan_order(message, now)
         } else {
-            let step = self.txns.plan_delivered(&self.dir, message, now)?;
-            Ok(Step::Txn(step))
+            self.plan_other(message, now)
         }
+    }
+
+    // Plans that a message is lost.
+    fn plan_lost(&self, message: &Sent) -> Step
+        ensures planned { IsStep self.now result }
+        ensures step { (n now : ℕ) → IsStepOf self.now (ACall.Lose n) (Some message.now) now result }
+        ensures defined { (h : History) (n now : ℕ) → IsCore h self.now → is_closed h ≡ false → message_of h (ACall.Lose n) ≡ Some message.now → IsDefined self.now.lines h (ACall.Lose n) now result }
+    {
+        Step::Txn(self.txns.plan_lost(message))
     }
 
     /// Plans a call, with the message that it is about. It takes all memory of the change, and
@@ -107,16 +162,10 @@ impl CoreShards {
         ensures same { (h : History) → IsCore h self.old → IsCore h self.new }
     {
         match call {
-            Call::Hear { psp, input } => {
-                let step = self.txns.plan_heard(&self.dir, psp, input, now)?;
-                Ok(Step::Txn(step))
-            }
-            Call::Late(txn) => {
-                let step = self.txns.plan_late(&self.dir, txn, now)?;
-                Ok(Step::Txn(step))
-            }
+            Call::Hear { psp, input } => self.plan_heard(psp, input, now),
+            Call::Late(txn) => self.plan_late(txn, now),
             Call::Deliver(_n) => self.plan_delivered(message.unwrap(), now),
-            Call::Lose(_n) => Ok(Step::Txn(self.txns.plan_lost(message.unwrap()))),
+            Call::Lose(_n) => Ok(self.plan_lost(message.unwrap())),
             Call::Close => unreachable!(),
         }
     }

@@ -46,12 +46,7 @@ impl TxnShards {
     }
 
     // Appends what is due of the shard at a place.
-    fn due_at(
-        &self,
-        now: u64,
-        place: usize,
-        out: &mut Vec<(u64, TxnId)>,
-    ) -> Result<(), NoMemory>
+    fn due_at(&self, now: u64, place: usize, out: &mut Vec<(u64, TxnId)>) -> Result<(), NoMemory>
         requires { place < 16 }
         ensures { OnOk result (Appends now (rows_all self.now) place out.old.items out.new.items) }
     {

@@ -18,7 +18,7 @@ returns-clause-planned c =
     step_planned c.args.self.now c.self.inside.shards.items c.txn_shard-place.result c.index_mut-shard.result.now read c.plan_delivered.new.self c.in_ok-step.step c.in_ok-step.ensures.planned
 
 pub returns-clause-makes : goal.returns-clause-makes
-returns-clause-makes c = λ n. 
+returns-clause-makes c = λ n.
     let read : IsRead c.args.self.now c.self.inside.shards.items c.txn_shard-place.result c.index_mut-shard.result.now =
     record { same = c.self.view_is; sixteen = c.self.invariant; within = c.txn_shard-place.ensures.bound; is = c.index_mut-shard.ensures.value } in
     let owner = delivered_is c.args.message.now c.txn_shard-place.result c.requires (c.txn_shard-place.ensures.value ∙ ap txn_shard c.txn_of.ensures) in
