@@ -17,24 +17,24 @@ use Rattle.upi_base.specs.Names.{Text}
 use Rattle.expiry_clock.specs.Dues.{Dues, due_cmp, IsDueList}
 
 -- a due moment, with its transaction
-abbrev pub Due : Type 0
+abbrev Due : Type 0
 Due = ℕ × Text
 
-pub due_total : IsTotalOrder due_cmp
+due_total : IsTotalOrder due_cmp
 due_total = then_total (on_total (λ (d : Due). d.0) nat_cmp_total) (on_total (λ (d : Due). d.1) nat_list_cmp_total)
 
 due_exact : (x y : Due) → due_cmp x y ≡ ordering.Equal → x ≡ y
 due_exact x y e = exact_pairs nat_cmp (slice_cmp nat_cmp) exact_unsigned exact_bytes x y e
 
 -- none is before an earlier one of the list
-abbrev pub Rises : List Due → Type 0
+abbrev Rises : List Due → Type 0
 Rises xs = (x : Due) (i j : ℕ) (d : Due) → i ≤ j → j < length xs → ordering_index (due_cmp (get_or xs i d) x) ≤ ordering_index (due_cmp (get_or xs j d) x)
 
-pub rises : (xs : List Due) → IsSorted due_cmp xs → Rises xs
+rises : (xs : List Due) → IsSorted due_cmp xs → Rises xs
 rises xs sorted = λ x. searchable_from_sorted due_total (λ (y : Due). y) xs x sorted
 
 -- no transaction is in the list twice
-abbrev pub Once : List Due → Type 0
+abbrev Once : List Due → Type 0
 Once xs = IsDistinct bytes_eq (map (λ (d : Due). d.1) xs)
 
 first : (x : Due) (xs : List Due) → Contains (x ∷ xs) x
@@ -74,7 +74,7 @@ rest x y xs ys same once to z there =
     let other : y ≢ z = λ e. both_ways (bytes_eq x.1 z.1) (apart x z xs there.0 once.0 there.1 there.2) ((bytes_eq-Decides x.1 z.1).1 (ap (λ (d : Due). d.1) (same ∙ e))) in
     behind y z ys found.0 other found.1 found.2
 
-pub one_order : (xs ys : List Due) → ((z : Due) → Contains xs z → Contains ys z) → ((z : Due) → Contains ys z → Contains xs z) → Rises xs → Rises ys → Once xs → Once ys → xs ≡ ys
+one_order : (xs ys : List Due) → ((z : Due) → Contains xs z → Contains ys z) → ((z : Due) → Contains ys z → Contains xs z) → Rises xs → Rises ys → Once xs → Once ys → xs ≡ ys
 unfolding IsDistinct
 one_order [] [] to from up over once twice = refl
 one_order [] (y ∷ ys) to from up over once twice = let there = from y (first y ys) in absurd (omega (arith, there.1))

@@ -30,13 +30,13 @@ use Rattle.upi_model.proofs.DueOrder.{due_list_laws}
 use Rattle.upi_model.proofs.Own.{own_standing_is}
 use Rattle.upi_laws.proofs.Local.{own_sendings_is}
 use Rattle.expiry_clock.specs.Dues.{due_cmp}
-use Rattle.expiry_clock.proofs.OneList.{due_total, one_order, rises}
 use Rattle.txn_row.specs.Rows.{Course, due_in}
 use Rattle.txn_shard.specs.Rows.{IsDueOf, due_at, row_at, row_if}
 use Rattle.txn_shard.specs.Shard.{Stands, IsHere}
 use Rattle.txn_shard.proofs.Gathered.{shard_laws}
 use Rattle.txn_shards.specs.Txns.{StandTxns, Appends, entries_in}
 use Rattle.txn_shards.proofs.Changes.{some_at}
+use Rattle.txn_shards.proofs.OneOrder.{due_total, one_order, rises}
 
 -- ---- the order
 
