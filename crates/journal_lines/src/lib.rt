@@ -11,6 +11,8 @@ mod message;
 mod outcome;
 mod reply;
 mod spelled;
+#[cfg(test)]
+mod tests;
 
 pub use entry::EntryLine;
 pub use line::{JournalLine, JournalReader};

@@ -1,0 +1,4 @@
+-- What private functions ensure.
+pub mod Steps
+pub mod Trying
+pub mod Keeping

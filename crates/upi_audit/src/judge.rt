@@ -1,0 +1,287 @@
+//! What judges a journal after OPEN: each line is held against what the switch answers, and nothing of
+//! it is kept.
+ghost use Rattle.std.specs.Prelude.{◌≡◌, ◌↔◌, IsTrue, IfOk, None};
+ghost use Rattle.std.specs.Option.{option_copied, option_or};
+ghost use Rattle.recon_report.specs.Report.{report_text};
+ghost use Rattle.switch_core.specs.Calls.{is_known as knows};
+ghost use Rattle.upi_audit.specs.calls.Steps;
+
+use crate::closing::Closing;
+use crate::wrong::Wrong;
+use journal_lines::{EntryLine, JournalLine, JournalReader};
+use recon_report::report;
+use std::alloc::Global;
+use std::marker::Model;
+use switch_core::{Core, CoreFault};
+use upi_base::{
+    AuditWhy, Call, EngineFault, NoMemory, Reply, Sent, Setup, SetupLine, Verdict, has_psp,
+};
+use upi_text::message_line;
+
+/// What judges a journal after OPEN. Contracts see the switch that plays its calls, how many entries
+/// and messages were read, what is wrong first, and the report that is due.
+#[derive(Drop)]
+pub(crate) struct Judge {
+    alloc: Global,
+    core: Core,
+    lines: JournalReader,
+    // The text of the message that is due; its memory is used again.
+    text: Vec<u8>,
+    entries: u64,
+    matched: u64,
+    wrong: Option<Wrong>,
+    due: Option<Closing>,
+}
+
+impl Model for Judge {
+    ghost use Rattle.upi_audit.specs.calls.Keeping.{Bench};
+
+    ghost Value = { Bench };
+
+    ghost view = { λ j. record { core = j.core; entries = j.entries; matched = j.matched; wrong = j.wrong; due = j.due } };
+}
+
+// Whether two replies are one.
+fn same_reply(a: Reply, b: Reply) -> bool
+    ensures { IsTrue result ↔ (a ≡ b) }
+{
+    a == b
+}
+
+// Whether the PSP of a Hear is in the setup.
+fn is_known(lines: &[SetupLine], call: &Call) -> bool
+    ensures { result ≡ knows lines.now call.now }
+{
+    match call {
+        Call::Hear { psp, input: _input } => has_psp(lines, psp.bytes()),
+        _ => true,
+    }
+}
+
+// Plays a call. The answer is why its E line is wrong, if it is.
+fn play(core: &mut Core, line: EntryLine) -> Result<Option<AuditWhy>, NoMemory>
+    ensures { IfOk result (λ why. Steps.PlayAnswer core.old line core.new why) }
+{
+    if !is_known(core.lines(), &line.call) {
+        return Ok(Some(AuditWhy::Call));
+    }
+    match core.apply(line.call, line.at) {
+        Ok(done) => {
+            if same_reply(line.reply, done.reply) {
+                Ok(None)
+            } else {
+                Ok(Some(AuditWhy::Reply))
+            }
+        }
+        Err(CoreFault::NoMemory) => Err(NoMemory),
+        Err(CoreFault::Full { len: _len }) => Ok(Some(AuditWhy::Call)),
+        Err(
+            CoreFault::NoMessage {
+                n: _n,
+                sent: _sent,
+            },
+        ) => Ok(Some(AuditWhy::Call)),
+    }
+}
+
+// Whether a line is the M line of a message with this number, if there is one.
+fn is_line_of(
+    n: u64,
+    sent: Option<&Sent>,
+    line: &[u8],
+    text: &mut Vec<u8>,
+) -> Result<bool, NoMemory>
+    ensures { IfOk result (λ b. b ≡ Steps.is_line_of n (option_copied sent) line.now) }
+{
+    match sent {
+        None => Ok(false),
+        Some(sent) => {
+            text.clear();
+            message_line(n, sent, text)?;
+            Ok(text.as_slice() == line)
+        }
+    }
+}
+
+// What is wrong with an entry at a place, if something is.
+fn wrong_at(place: u64, why: Option<AuditWhy>) -> Option<Wrong>
+    ensures { result ≡ Steps.wrong_at place why }
+{
+    match why {
+        None => None,
+        Some(why) => Some(Wrong { place, why }),
+    }
+}
+
+impl Judge {
+    /// A judge of a journal with an accepted setup, after OPEN.
+    pub(crate) fn new(alloc: Global, setup: Setup) -> Result<Judge, NoMemory>
+        ensures { IfOk result (λ j. j ≡ Steps.opened setup.lines) }
+    {
+        match Core::new(alloc, setup) {
+            Ok(core) => Ok(Judge {
+                alloc,
+                core,
+                lines: JournalReader::new(alloc),
+                text: Vec::new(alloc),
+                entries: 0,
+                matched: 0,
+                wrong: None,
+                due: None,
+            }),
+            // The setup was accepted line by line, so that only memory can be wanting.
+            Err(_at) => Err(NoMemory),
+        }
+    }
+
+    // That messages of the latest entry have no M line.
+    fn unsent(&self) -> Option<Wrong>
+        ensures { result ≡ Steps.unsent self.now }
+    {
+        if self.matched < self.core.sent_count() {
+            Some(Wrong {
+                place: self.entries,
+                why: AuditWhy::Sent,
+            })
+        } else {
+            None
+        }
+    }
+
+    // That there is no Close.
+    fn unclosed(&self) -> Option<Wrong>
+        ensures { result ≡ Steps.unclosed self.now }
+    {
+        if self.core.is_closed() {
+            None
+        } else {
+            Some(Wrong {
+                place: self.entries,
+                why: AuditWhy::NoClose,
+            })
+        }
+    }
+
+    // An E line.
+    fn entry(&mut self, line: EntryLine) -> Result<(), NoMemory>
+        ensures { IfOk result (λ _. Steps.EntryAnswer self.old line self.new (option_or self.old.wrong (Steps.unsent self.old))) }
+    {
+        let place = line.place;
+        let wrong = self.wrong.or(self.unsent());
+        if wrong.is_none() {
+            self.wrong = wrong_at(place, play(&mut self.core, line)?);
+        } else {
+            self.wrong = wrong;
+        }
+        self.entries = place;
+        Ok(())
+    }
+
+    // Whether a line is the M line that is due.
+    fn is_due(&mut self, line: &[u8]) -> Result<bool, NoMemory>
+        ensures is { IfOk result (λ b. b ≡ Steps.is_due self.old line.now) }
+        ensures same { self.new ≡ self.old }
+    {
+        if self.matched >= self.core.sent_count() {
+            return Ok(false);
+        }
+        let n = self.matched + 1;
+        is_line_of(n, self.core.message(n), line, &mut self.text)
+    }
+
+    // An M line.
+    fn message(&mut self, line: &[u8]) -> Result<(), NoMemory>
+        ensures { IfOk result (λ _. self.new ≡ Steps.message_step self.old line.now self.old.wrong) }
+    {
+        if self.wrong.is_some() {
+            return Ok(());
+        }
+        if self.is_due(line)? {
+            self.matched += 1;
+        } else {
+            self.wrong = Some(Wrong {
+                place: self.entries,
+                why: AuditWhy::Sent,
+            });
+        }
+        Ok(())
+    }
+
+    // The report that is due.
+    fn report(&self) -> Result<Closing, NoMemory>
+        ensures { IfOk result (λ c. c ≡ record { rest = report_text self.now.core.setup self.now.core.history; lines = 0 }) }
+    {
+        let rows = self.core.rows()?;
+        let balances = self.core.balances()?;
+        let text = report(
+            self.alloc,
+            self.core.lines(),
+            &rows,
+            &balances,
+            self.core.flight(),
+        )?;
+        Ok(Closing::new(text))
+    }
+
+    // REPORT.
+    fn end_entries(&mut self) -> Result<(), NoMemory>
+        ensures { IfOk result (λ _. self.new ≡ Steps.report_step self.old) }
+    {
+        self.due = Some(self.report()?);
+        self.wrong = self.wrong.or(self.unsent().or(self.unclosed()));
+        Ok(())
+    }
+
+    // A line between OPEN and REPORT.
+    fn step(&mut self, line: &[u8]) -> Result<(), EngineFault>
+        ensures { Steps.BenchAnswer self.old line.now self.new None result }
+    {
+        match self.lines.line(self.entries, line)? {
+            JournalLine::Skipped => Ok(()),
+            JournalLine::Entry(entry) => Ok(self.entry(entry)?),
+            JournalLine::Message => Ok(self.message(line)?),
+            JournalLine::Report => Ok(self.end_entries()?),
+        }
+    }
+
+    /// Reads a line after OPEN.
+    pub(crate) fn line(&mut self, line: &[u8]) -> Result<(), EngineFault>
+        ensures { Steps.BenchAnswer self.old line.now self.new self.old.due result }
+    {
+        if let Some(due) = &mut self.due {
+            if self.wrong.is_none() && !due.take(line) {
+                self.wrong = Some(Wrong {
+                    place: due.lines() + 1,
+                    why: AuditWhy::Report,
+                });
+            }
+            return Ok(());
+        }
+        self.step(line)
+    }
+
+    /// The verdict; `None` where REPORT wasn't read.
+    pub(crate) fn verdict(&self) -> Option<Verdict>
+        ensures { result ≡ Steps.verdict_of self.now self.now.due self.now.wrong }
+    {
+        let Some(due) = &self.due else {
+            return None;
+        };
+        if let Some(wrong) = self.wrong {
+            return Some(Verdict::No {
+                entry: wrong.place,
+                why: wrong.why,
+            });
+        }
+        if due.is_done() {
+            Some(Verdict::Yes {
+                entries: self.entries,
+            })
+        } else {
+            Some(Verdict::No {
+                entry: due.lines() + 1,
+                why: AuditWhy::Report,
+            })
+        }
+    }
+}

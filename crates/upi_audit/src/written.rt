@@ -1,0 +1,41 @@
+//! How a verdict is written.
+ghost use Rattle.std.specs.Prelude.{◌≡◌, ◌++◌, OnOk};
+ghost use Rattle.upi_audit.specs.Written;
+
+use upi_base::{AuditWhy, NoMemory, Verdict, write_number};
+
+/// The word of a reason.
+pub(crate) fn why_word(why: AuditWhy) -> &'static [u8]
+    ensures { result.now ≡ Written.why_text why }
+{
+    match why {
+        AuditWhy::Call => b"CALL",
+        AuditWhy::Reply => b"REPLY",
+        AuditWhy::Sent => b"SENT",
+        AuditWhy::NoClose => b"NOCLOSE",
+        AuditWhy::Report => b"REPORT",
+    }
+}
+
+/// Appends the line of a verdict, with its line feed: `YES entries` or `NO entry WHY`. At want of
+/// memory a part may be appended.
+pub fn write_verdict(verdict: Verdict, out: &mut Vec<u8>) -> Result<(), NoMemory>
+    ensures { OnOk result (out.new.items ≡ out.old.items ++ Written.verdict_text verdict) }
+{
+    match verdict {
+        Verdict::Yes { entries } => {
+            out.extend_from_slice(b"YES ")?;
+            write_number(entries, out)?;
+            out.push(b'\n')?;
+            Ok(())
+        }
+        Verdict::No { entry, why } => {
+            out.extend_from_slice(b"NO ")?;
+            write_number(entry, out)?;
+            out.push(b' ')?;
+            out.extend_from_slice(why_word(why))?;
+            out.push(b'\n')?;
+            Ok(())
+        }
+    }
+}
