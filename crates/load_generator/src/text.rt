@@ -18,8 +18,9 @@ pub const MAX_SEED: u32 = 2_147_483_647;
 /// How many lines the setup has.
 pub const SETUP_LINES: u32 = 90;
 
-/// Appends the setup.
-fn push_setup(out: &mut Vec<u8>) -> Result<(), NoMemory>
+/// Appends the lines of the setup, each with its line end. It fails only for want of memory; then a
+/// part may be appended.
+pub fn push_setup(out: &mut Vec<u8>) -> Result<(), NoMemory>
     ensures { OnOk result (out.new.items ≡ out.old.items ++ Loads.setup_text setup_len) }
 {
     'lines: for k in 0..SETUP_LINES {
