@@ -5,7 +5,7 @@ use super::*;
 use std::alloc::Global;
 use std::io::BufWriter;
 use std::test::Fail;
-use upi_base::{NoMemory, Why};
+use upi_base::{AuditWhy, NoMemory, Why};
 
 // A source over these bytes. The calls listed fail.
 fn source(alloc: Global, bytes: &[u8], piece: usize, fail_at: &[u64]) -> Result<MemSource, Fail>
@@ -230,6 +230,14 @@ fn statuses(rt: HostRuntime) -> Result<(), Fail> {
         (Status::ReadFault, 4, b"upi: read fault\n".as_slice()),
         (Status::WriteFault, 5, b"upi: write fault\n".as_slice()),
         (Status::NoMemory, 6, b"upi: no memory\n".as_slice()),
+        (
+            Status::AuditNo {
+                entry: 14,
+                why: AuditWhy::NoClose,
+            },
+            7,
+            b"upi: audit: entry 14: NOCLOSE\n".as_slice(),
+        ),
     ];
     for (status, code, want) in rows {
         let mut line = Vec::new(alloc);
@@ -265,6 +273,21 @@ fn reasons(rt: HostRuntime) -> Result<(), Fail> {
         status.write_line(&mut line)?;
         let want = format!(in alloc; "upi: line 1: word 0: {name}\n")?;
         assert_eq!(rt; line.as_slice(), want.as_bytes());
+    }
+    Ok(())
+}
+
+#[test]
+fn reasons_of_audits(rt: HostRuntime) -> Result<(), Fail> {
+    let rows = [
+        (AuditWhy::Call, "CALL"),
+        (AuditWhy::Reply, "REPLY"),
+        (AuditWhy::Sent, "SENT"),
+        (AuditWhy::NoClose, "NOCLOSE"),
+        (AuditWhy::Report, "REPORT"),
+    ];
+    for (why, name) in rows {
+        assert!(rt; audit_why_name(why) == name.as_bytes());
     }
     Ok(())
 }
