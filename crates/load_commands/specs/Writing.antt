@@ -24,6 +24,7 @@ WritesText text before after (Status.TooLong line) = ⊥
 WritesText text before after Status.ReadFault = ⊥
 WritesText text before after Status.WriteFault = (rest : Text) × (rest ≢ []) × WritesFront text before after rest
 WritesText text before after Status.NoMemory = (rest : Text) × WritesFront text before after rest
+WritesText text before after (Status.AuditNo entry why) = ⊥
 
 -- what the lines of a load play to, summed up in a line
 pub record IsSummary (count seed : ℕ) (line : Text) : Type 0 where
@@ -46,3 +47,4 @@ SumsUp count seed before after (Status.TooLong line) = ⊥
 SumsUp count seed before after Status.ReadFault = ⊥
 SumsUp count seed before after Status.WriteFault = WritesLine count seed before after Status.WriteFault
 SumsUp count seed before after Status.NoMemory = after ≡ before
+SumsUp count seed before after (Status.AuditNo entry why) = ⊥

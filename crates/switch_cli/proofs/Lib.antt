@@ -3,5 +3,8 @@ pub mod Ends
 pub mod Journals
 pub mod Plays
 pub mod Runs
+pub mod Audits
+pub mod AuditWholes
+pub mod Does
 pub mod Trust
 pub mod Wholes

@@ -11,12 +11,12 @@ use std::alloc::Global;
 use upi_base::Why;
 use upi_io::{Line, LineFault, LineReader, Sink, Source, Status, Wrote, write_all};
 
-/// Why a run of a script stops before its end.
+/// Why a run of a script, or an audit, stops before its end.
 #[derive(Clone, Copy, Debug, PartialEq, Eq)]
-enum Stop {
+pub(crate) enum Stop {
     /// The next line wasn't found.
     Read(LineFault),
-    /// It wasn't played.
+    /// It wasn't played, or wasn't taken by the audit.
     Play(EngineFault),
     /// Its text wasn't written.
     Write,
@@ -79,7 +79,7 @@ fn play_status(line: u64, fault: EngineFault) -> Status
 }
 
 // How a run ends that stops at the line of this number.
-fn status_of(line: u64, stop: Stop) -> Status
+pub(crate) fn status_of(line: u64, stop: Stop) -> Status
     ensures { result ≡ status_of line stop }
 {
     match stop {
