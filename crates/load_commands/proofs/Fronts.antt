@@ -4,8 +4,7 @@ use Rattle.std.proofs.lemmas.List.{take-append-drop, length-drop}
 use Rattle.std.proofs.KnownBytes.{Appends-nil, Appends-trans}
 use Rattle.std.specs.Io.KnownBytes.{Appends}
 use Rattle.upi_words.specs.Prelude.{Text}
-use Rattle.load_generator.specs.Loads.{ended, generated, next_send, sends_text, setup_text}
-use Rattle.load_generator.specs.Users.{setup_len}
+use Rattle.load_generator.specs.Loads.{ended, generated, next_send, sends_text, whole_setup}
 use Rattle.load_commands.specs.Writing.{WritesFront}
 use Rattle.load_commands.specs.calls.Pieces.{StopsIn, Collects, HandsOn}
 use Rattle.load_commands.specs.declared.stop.Stop.{Stop}
@@ -56,29 +55,43 @@ handed_on whole before now after text left (Ok u) w h = subst (λ (t : Text). Wr
 handed_on whole before now after text left (Err Stop.Write) w h = cut_out whole before now after text h.0 h.1 w h.2
 handed_on whole before now after text left (Err Stop.NoMemory) w h = absurd h
 
+-- the same, where what is left doesn't count any more
+pub handed_out : (whole : Text) (before now after : Option Text) (text left : Text) (r : Result (Unit {0}) Stop) → WritesFront whole before now text → HandsOn now after text left r → Collects whole before after [] r
+handed_out whole before now after text left (Ok u) w h = all_out whole before now after text w h.0
+handed_out whole before now after text left (Err Stop.Write) w h = cut_out whole before now after text h.0 h.1 w h.2
+handed_out whole before now after text left (Err Stop.NoMemory) w h = absurd h
+
 -- a text that stops within its front stops within it
 pub stops_in_front : (whole more : Text) (before now : Option Text) (stop : Stop) → StopsIn whole before now stop → StopsIn (whole ++ more) before now stop
 stops_in_front whole more before now Stop.Write s = (s.0 ++ more, more_left s.0 more s.1, more_collected whole before now s.0 more s.2)
 stops_in_front whole more before now Stop.NoMemory s = (s.0 ++ more, more_collected whole before now s.0 more s.1)
 
 -- the payments of a load behind its first ones
-sends_more : (seed n k : ℕ) → (rest : Text) × (sends_text seed (k + n) ≡ sends_text seed n ++ rest)
-sends_more seed n zero = ([], sym (append-nil (sends_text seed n)))
-sends_more seed n (suc k) =
-    let m = sends_more seed n k in
+sends_more : (seed n k m : ℕ) → m ≡ k + n → (rest : Text) × (sends_text seed m ≡ sends_text seed n ++ rest)
+sends_more seed n zero m is =
+    let same : n ≡ m = omega (arith, is) in
+    ([], subst (λ (j : ℕ). sends_text seed j ≡ sends_text seed n ++ []) same (sym (append-nil (sends_text seed n))))
+sends_more seed n (suc k) m is =
+    let more = sends_more seed n k (k + n) refl in
     let line = ended (next_send seed (k + n)) in
-    (m.0 ++ line, ap (λ (t : Text). t ++ line) m.1 ∙ append_assoc (sends_text seed n) m.0 line)
+    let same : suc (k + n) ≡ m = omega (arith, is) in
+    (more.0 ++ line, subst (λ (j : ℕ). sends_text seed j ≡ sends_text seed n ++ (more.0 ++ line)) same (ap (λ (t : Text). t ++ line) more.1 ∙ append_assoc (sends_text seed n) more.0 line))
+
+-- one payment more
+pub one_payment : (seed n : ℕ) → (whole_setup ++ sends_text seed n) ++ ended (next_send seed n) ≡ whole_setup ++ sends_text seed (n + 1)
+one_payment seed n =
+    let next : suc n ≡ n + 1 = omega arith in
+    append_assoc whole_setup (sends_text seed n) (ended (next_send seed n)) ∙ ap (λ (k : ℕ). whole_setup ++ sends_text seed k) next
 
 -- the setup and the first payments of a load are a front of it
-pub load_more : (count seed n : ℕ) → n ≤ count → (rest : Text) × (generated count seed ≡ (setup_text setup_len ++ sends_text seed n) ++ rest)
+pub load_more : (count seed n : ℕ) → n ≤ count → (rest : Text) × (generated count seed ≡ (whole_setup ++ sends_text seed n) ++ rest)
 load_more count seed n le =
-    let m = sends_more seed n (count - n) in
-    let all : count - n + n ≡ count = omega (arith, le) in
-    let is : sends_text seed count ≡ sends_text seed n ++ m.0 = subst (λ (k : ℕ). sends_text seed k ≡ sends_text seed n ++ m.0) all m.1 in
-    (m.0, ap (λ (t : Text). setup_text setup_len ++ t) is ∙ sym (append_assoc (setup_text setup_len) (sends_text seed n) m.0))
+    let all : count ≡ count - n + n = omega (arith, le) in
+    let m = sends_more seed n (count - n) count all in
+    (m.0, ap (λ (t : Text). whole_setup ++ t) m.1 ∙ sym (append_assoc whole_setup (sends_text seed n) m.0))
 
 -- a load stops within its first payments
-pub load_stops : (count seed n : ℕ) (before now : Option Text) (stop : Stop) → n ≤ count → StopsIn (setup_text setup_len ++ sends_text seed n) before now stop → StopsIn (generated count seed) before now stop
+pub load_stops : (count seed n : ℕ) (before now : Option Text) (stop : Stop) → n ≤ count → StopsIn (whole_setup ++ sends_text seed n) before now stop → StopsIn (generated count seed) before now stop
 load_stops count seed n before now stop le s =
     let m = load_more count seed n le in
-    subst (λ (t : Text). StopsIn t before now stop) (sym m.1) (stops_in_front (setup_text setup_len ++ sends_text seed n) m.0 before now stop s)
+    subst (λ (t : Text). StopsIn t before now stop) (sym m.1) (stops_in_front (whole_setup ++ sends_text seed n) m.0 before now stop s)

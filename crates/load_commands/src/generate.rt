@@ -1,9 +1,8 @@
 //! The text of a load, written piece by piece.
-ghost use Rattle.std.specs.Prelude.{◌≡◌, ◌≤◌, ◌<◌, ◌+◌, ◌++◌, List, ℕ, [], Ok, Err};
+ghost use Rattle.std.specs.Prelude.{◌≡◌, ◌≤◌, ◌<◌, ◌+◌, ◌++◌, List, ℕ, [], Ok, Err, OnOk};
 ghost use Rattle.std.specs.declared.option.Option.{Option};
 ghost use Rattle.upi_io.specs.Faults.{Rose};
-ghost use Rattle.load_generator.specs.Loads.{ended, generated, next_send, setup_text};
-ghost use Rattle.load_generator.specs.Users.{setup_len};
+ghost use Rattle.load_generator.specs.Loads.{ended, generated, next_send};
 ghost use Rattle.load_generator.specs.declared.text.TheConstants.{MAX_COUNT, MAX_SEED};
 ghost use Rattle.load_commands.specs.Writing.{WritesText};
 ghost use Rattle.load_commands.specs.calls.Pieces.{Collected, Collects, HandsOn};
@@ -11,6 +10,7 @@ ghost use Rattle.load_commands.specs.calls.Pieces.{Collected, Collects, HandsOn}
 use crate::stop::Stop;
 use load_generator::{MAX_COUNT, MAX_SEED, Sends, push_setup};
 use std::alloc::Global;
+use upi_base::NoMemory;
 use upi_io::{Sink, Status, write_all};
 
 /// From how many bytes on what was collected goes out.
@@ -27,6 +27,17 @@ fn hand_on<K: Sink>(sink: &mut K, text: &mut Vec<u8>) -> Result<(), Stop>
     Ok(())
 }
 
+/// Adds the line of the next payment.
+fn add_next(sends: &mut Sends, text: &mut Vec<u8>) -> Result<(), NoMemory>
+    requires { sends.old.count < MAX_COUNT }
+    ensures made { sends.new ≡ record sends.old { count = sends.old.count + 1 } }
+    ensures line { OnOk result (text.new.items ≡ text.old.items ++ ended (next_send sends.old.seed sends.old.count)) }
+{
+    sends.push_next(text)?;
+    text.push(b'\n')?;
+    Ok(())
+}
+
 /// Adds the line of the next payment, and hands on what was collected where it is a piece.
 fn write_next<K: Sink>(sends: &mut Sends, sink: &mut K, text: &mut Vec<u8>) -> Result<(), Stop>
     requires { sends.old.count < MAX_COUNT }
@@ -36,8 +47,7 @@ fn write_next<K: Sink>(sends: &mut Sends, sink: &mut K, text: &mut Vec<u8>) -> R
     ensures writes { K.faults sink.old ≤ K.faults sink.new }
     ensures write { result ≡ Err Stop.Write → Rose (K.faults sink.old) (K.faults sink.new) }
 {
-    sends.push_next(text)?;
-    text.push(b'\n')?;
+    add_next(sends, text)?;
     if text.len() < PIECE {
         return Ok(());
     }
