@@ -291,12 +291,7 @@ impl Player {
         ensures line { PlayAnswer (call_done self.old (call_read self.old.setup.lines self.old.now line.now)) self.old out.old.items out.new.items self.new result }
         ensures sound { IsOpenPlay self.new }
     {
-        let command = call_read(
-            &mut self.reader,
-            self.core.directory(),
-            self.moment,
-            line,
-        )?;
+        let command = call_read(&mut self.reader, self.core.directory(), self.moment, line)?;
         let answer = self.play(command, out);
         let _moment = self.moment;
         let _goes = answer?;
