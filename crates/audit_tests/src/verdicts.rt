@@ -1,5 +1,4 @@
-use crate::examples;
-use crate::spoiled;
+use crate::{examples, spoiled};
 use std::alloc::Global;
 use std::test::Fail;
 use upi_audit::{Audit, EngineFault, Verdict, write_verdict};
@@ -165,11 +164,7 @@ fn holds(alloc: Global, journal: &str, row: &str) -> Result<bool, Fail> {
 }
 
 // The first row of a table that doesn't hold of a journal.
-fn first_wrong<'a>(
-    alloc: Global,
-    journal: &str,
-    table: &'a str,
-) -> Result<Option<&'a str>, Fail> {
+fn first_wrong<'a>(alloc: Global, journal: &str, table: &'a str) -> Result<Option<&'a str>, Fail> {
     for row in table.lines() {
         if !holds(alloc, journal, row)? {
             return Ok(Some(row));

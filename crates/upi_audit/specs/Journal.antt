@@ -21,8 +21,8 @@ pub record Journal : Type 0 where
   pub report : Option (List Text)
 
 -- nothing was read
-abbrev pub blank : Journal
-blank = record { setup = unread; entries = []; report = None }
+abbrev pub blank_journal : Journal
+blank_journal = record { setup = unread; entries = []; report = None }
 
 -- an M line stands with the latest entry
 abbrev pub with_message : Text → List Lined → List Lined
@@ -37,14 +37,14 @@ line_taken j text JournalLine.Message = record { setup = j.setup; entries = with
 line_taken j text JournalLine.Report = record { setup = j.setup; entries = j.entries; report = Some [] }
 
 -- the journal with a line after OPEN, or why that is refused; after REPORT a line is taken as it is
-abbrev pub later_line : Journal → Text → Option (List Text) → Result Journal Refusal
-later_line j text None = line_read (length j.entries) text >>= λ (l : JournalLine). Ok (line_taken j text l)
-later_line j text (Some lines) = Ok (record { setup = j.setup; entries = j.entries; report = Some (lines ++ text ∷ []) })
+abbrev pub line_after_open : Journal → Text → Option (List Text) → Result Journal Refusal
+line_after_open j text None = line_read (length j.entries) text >>= λ (l : JournalLine). Ok (line_taken j text l)
+line_after_open j text (Some lines) = Ok (record { setup = j.setup; entries = j.entries; report = Some (lines ++ text ∷ []) })
 
 -- the journal with a line of its setup, or why that is refused
-abbrev pub setup_line : Journal → Text → Result Journal Refusal
-setup_line j text = setup_read j.setup text >>= λ (r : SetupRead). Ok (record { setup = state_after j.setup r; entries = j.entries; report = j.report })
+abbrev pub line_before_open : Journal → Text → Result Journal Refusal
+line_before_open j text = setup_read j.setup text >>= λ (r : SetupRead). Ok (record { setup = state_after j.setup r; entries = j.entries; report = j.report })
 
 -- the journal with one line more, or why the line is refused
 abbrev pub with_line : Journal → Text → Result Journal Refusal
-with_line j text = if j.setup.is_open then later_line j text j.report else setup_line j text
+with_line j text = if j.setup.is_open then line_after_open j text j.report else line_before_open j text

@@ -35,32 +35,32 @@ pub record AreOf (S : Setup) (ls : List Lined) (h : History) : Type 0 where
   pub lines : ls ≡ lines_of h
 
 -- the report of a history, line by line
-abbrev pub report_lines : Setup → History → List Text
-report_lines S h = lines_in (report_text S h)
+abbrev pub reported_lines : Setup → History → List Text
+reported_lines S h = lines_in (report_text S h)
 
 -- a journal with these entries and this report is right: its lines are those of a legal history that is closed, and its report is that of this history
 pub record IsRight (S : Setup) (ls : List Lined) (report : List Text) (h : History) : Type 0 where
   pub lines : AreOf S ls h
   pub closed : is_closed h ≡ true
-  pub report : report ≡ report_lines S h
+  pub report : report ≡ reported_lines S h
 
 -- the first reason for which these aren't the lines of a right entry after that history
-abbrev pub IsFault : Setup → History → Lined → AuditWhy → Type 0
-IsFault S before l AuditWhy.Call = may_come S before l.said.call ≡ false
-IsFault S before l AuditWhy.Reply = (may_come S before l.said.call ≡ true) × ¬ l.said.reply ≡ reply_to S before l.said.call l.said.at
-IsFault S before l AuditWhy.Sent = (may_come S before l.said.call ≡ true) × (l.said.reply ≡ reply_to S before l.said.call l.said.at) × ¬ l.messages ≡ message_lines (sent_count before + 1) (sent_by S before l.said.call l.said.at)
-IsFault S before l AuditWhy.NoClose = ⊥
-IsFault S before l AuditWhy.Report = ⊥
+abbrev pub IsLineFault : Setup → History → Lined → AuditWhy → Type 0
+IsLineFault S before l AuditWhy.Call = may_come S before l.said.call ≡ false
+IsLineFault S before l AuditWhy.Reply = (may_come S before l.said.call ≡ true) × ¬ l.said.reply ≡ reply_to S before l.said.call l.said.at
+IsLineFault S before l AuditWhy.Sent = (may_come S before l.said.call ≡ true) × (l.said.reply ≡ reply_to S before l.said.call l.said.at) × ¬ l.messages ≡ message_lines (sent_count before + 1) (sent_by S before l.said.call l.said.at)
+IsLineFault S before l AuditWhy.NoClose = ⊥
+IsLineFault S before l AuditWhy.Report = ⊥
 
 -- the first entry that isn't right, counted from 1, and the first reason
-pub record IsFirstWrong (S : Setup) (ls : List Lined) (place : ℕ) (why : AuditWhy) : Type 0 where
+pub record IsFirstSpoiled (S : Setup) (ls : List Lined) (place : ℕ) (why : AuditWhy) : Type 0 where
   pub later : List Lined
   pub wrong : Lined
   pub before : History
   pub splits : ls ≡ later ++ wrong ∷ lines_of before
   pub placed : place ≡ length before + 1
   pub legal : Legal S before
-  pub fault : IsFault S before wrong why
+  pub fault : IsLineFault S before wrong why
 
 -- the lines are those of a legal history, which has so many entries and no Close
 pub record IsOpen (S : Setup) (ls : List Lined) (count : ℕ) : Type 0 where
@@ -74,13 +74,13 @@ pub record IsMisreported (S : Setup) (ls : List Lined) (report : List Text) (num
   pub history : History
   pub lines : AreOf S ls history
   pub closed : is_closed history ≡ true
-  pub differs : first_difference report (report_lines S history) ≡ Some number
+  pub differs : first_difference report (reported_lines S history) ≡ Some number
 
 -- what a verdict says of a journal with this setup, these entries and this report
-abbrev pub Judges : Setup → List Lined → List Text → Verdict → Type 0
-Judges S ls report (Verdict.Yes count) = (h : History) × IsRight S ls report h × (count ≡ length h)
-Judges S ls report (Verdict.No place AuditWhy.NoClose) = IsOpen S ls place
-Judges S ls report (Verdict.No place AuditWhy.Report) = IsMisreported S ls report place
-Judges S ls report (Verdict.No place AuditWhy.Call) = IsFirstWrong S ls place AuditWhy.Call
-Judges S ls report (Verdict.No place AuditWhy.Reply) = IsFirstWrong S ls place AuditWhy.Reply
-Judges S ls report (Verdict.No place AuditWhy.Sent) = IsFirstWrong S ls place AuditWhy.Sent
+abbrev pub JudgesJournal : Setup → List Lined → List Text → Verdict → Type 0
+JudgesJournal S ls report (Verdict.Yes count) = (h : History) × IsRight S ls report h × (count ≡ length h)
+JudgesJournal S ls report (Verdict.No place AuditWhy.NoClose) = IsOpen S ls place
+JudgesJournal S ls report (Verdict.No place AuditWhy.Report) = IsMisreported S ls report place
+JudgesJournal S ls report (Verdict.No place AuditWhy.Call) = IsFirstSpoiled S ls place AuditWhy.Call
+JudgesJournal S ls report (Verdict.No place AuditWhy.Reply) = IsFirstSpoiled S ls place AuditWhy.Reply
+JudgesJournal S ls report (Verdict.No place AuditWhy.Sent) = IsFirstSpoiled S ls place AuditWhy.Sent

@@ -30,14 +30,14 @@ impl Model for Audit {
 
 impl Audit {
     ghost use Rattle.std.specs.Prelude.{◌≡◌, true, false, None, Err};
-    ghost use Rattle.upi_audit.specs.Journal.{blank};
-    ghost use Rattle.upi_audit.specs.Audit.{Reads, Ends, StaysFailed};
+    ghost use Rattle.upi_audit.specs.Journal.{blank_journal};
+    ghost use Rattle.upi_audit.specs.Audit.{ReadsLine, ReadsEnd, StaysFailed};
     ghost use Rattle.upi_audit.specs.calls.Keeping.{HasRead, IsOpenedOnce};
-    ghost use Rattle.upi_audit.specs.calls.Trying.{SetupAnswer, TryAnswer, SettleAnswer};
+    ghost use Rattle.upi_audit.specs.calls.Trying.{SetupLineAnswer, TryAnswer, SettleAnswer};
 
     /// An audit that has read nothing. `alloc` serves all that it keeps.
     pub fn new(alloc: Global) -> Audit
-        ensures { HasRead blank result }
+        ensures { HasRead blank_journal result }
     {
         Audit {
             alloc,
@@ -47,10 +47,10 @@ impl Audit {
         }
     }
 
-    // Reads a line before OPEN. At OPEN the judge comes.
+    // ReadsLine a line before OPEN. At OPEN the judge comes.
     fn setup_line(&mut self, line: &[u8]) -> Result<(), EngineFault>
         requires { self.old.bench ≡ None }
-        ensures line { SetupAnswer self.old.setup line.now self.new result }
+        ensures line { SetupLineAnswer self.old.setup line.now self.new result }
         ensures failed { self.new.failed ≡ self.old.failed }
     {
         let mut text = Vec::new(self.alloc);
@@ -64,7 +64,7 @@ impl Audit {
         }
     }
 
-    // Reads a line.
+    // ReadsLine a line.
     fn read(&mut self, line: &[u8]) -> Result<(), EngineFault>
         ensures line { TryAnswer self.old.setup self.old.bench line.now self.new result }
         ensures failed { self.new.failed ≡ self.old.failed }
@@ -85,7 +85,7 @@ impl Audit {
         }
     }
 
-    /// Reads a line, which comes without its line end.
+    /// ReadsLine a line, which comes without its line end.
     ///
     /// It is `Bad` exactly outside the grammar of journals, with the first reason, and then changes
     /// nothing: setup lines up to OPEN, then E lines, each with the place after that of the one before
@@ -93,7 +93,7 @@ impl Audit {
     /// passed over until then; after REPORT each line is taken as it is. At want of memory the audit
     /// answers `NoMemory` from then on, and changes nothing any more.
     pub fn line(&mut self, line: &[u8]) -> Result<(), EngineFault>
-        ensures line { Reads self.old line.now self.new result }
+        ensures line { ReadsLine self.old line.now self.new result }
         ensures failed { StaysFailed self.old self.new result }
     {
         if self.failed {
@@ -116,7 +116,7 @@ impl Audit {
     /// It is `Bad` with `End` exactly where OPEN or REPORT wasn't read, and `NoMemory` exactly where
     /// memory has failed before.
     pub fn end(&self) -> Result<Verdict, EngineFault>
-        ensures end { Ends self.now result }
+        ensures end { ReadsEnd self.now result }
         ensures failed { self.now.failed ≡ true → result ≡ Err EngineFault.NoMemory }
     {
         if self.failed {

@@ -88,7 +88,7 @@ impl Closing {
         ensures { Steps.TakeAnswer self.old line.now self.new result }
     {
         let rest = &self.text[self.at..];
-        if rest.is_empty() || first_line(rest) != line {
+        if rest.is_empty() || line != first_line(rest) {
             return false;
         }
         let step = line_end(rest);

@@ -60,7 +60,7 @@ fn is_known(lines: &[SetupLine], call: &Call) -> bool
 
 // Plays a call. The answer is why its E line is wrong, if it is.
 fn play(core: &mut Core, line: EntryLine) -> Result<Option<AuditWhy>, NoMemory>
-    ensures { IfOk result (λ why. Steps.PlayAnswer core.old line core.new why) }
+    ensures { IfOk result (λ why. Steps.PlayedAnswer core.old line core.new why) }
 {
     if !is_known(core.lines(), &line.call) {
         return Ok(Some(AuditWhy::Call));
@@ -75,12 +75,7 @@ fn play(core: &mut Core, line: EntryLine) -> Result<Option<AuditWhy>, NoMemory>
         }
         Err(CoreFault::NoMemory) => Err(NoMemory),
         Err(CoreFault::Full { len: _len }) => Ok(Some(AuditWhy::Call)),
-        Err(
-            CoreFault::NoMessage {
-                n: _n,
-                sent: _sent,
-            },
-        ) => Ok(Some(AuditWhy::Call)),
+        Err(CoreFault::NoMessage { n: _n, sent: _sent }) => Ok(Some(AuditWhy::Call)),
     }
 }
 
@@ -116,7 +111,7 @@ fn wrong_at(place: u64, why: Option<AuditWhy>) -> Option<Wrong>
 impl Judge {
     /// A judge of a journal with an accepted setup, after OPEN.
     pub(crate) fn new(alloc: Global, setup: Setup) -> Result<Judge, NoMemory>
-        ensures { IfOk result (λ j. j ≡ Steps.opened setup.lines) }
+        ensures { IfOk result (λ j. j ≡ Steps.just_opened setup.lines) }
     {
         match Core::new(alloc, setup) {
             Ok(core) => Ok(Judge {
@@ -179,7 +174,7 @@ impl Judge {
 
     // Whether a line is the M line that is due.
     fn is_due(&mut self, line: &[u8]) -> Result<bool, NoMemory>
-        ensures is { IfOk result (λ b. b ≡ Steps.is_due self.old line.now) }
+        ensures is { IfOk result (λ b. b ≡ Steps.is_due_line self.old line.now) }
         ensures same { self.new ≡ self.old }
     {
         if self.matched >= self.core.sent_count() {
@@ -244,7 +239,7 @@ impl Judge {
         }
     }
 
-    /// Reads a line after OPEN.
+    /// ReadsLine a line after OPEN.
     pub(crate) fn line(&mut self, line: &[u8]) -> Result<(), EngineFault>
         ensures { Steps.BenchAnswer self.old line.now self.new self.old.due result }
     {

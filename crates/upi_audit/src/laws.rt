@@ -5,5 +5,5 @@ ghost use Rattle.upi_audit.specs.Laws;
 /// and its report.
 #[tactic(auto, using(crate::proofs::Exact::verdict_is_exact))]
 pub fn verdict_is_exact()
-    ensures { Laws.VerdictIsExact }
+    ensures { Laws.AuditIsExact }
 {}

@@ -5,8 +5,8 @@ pub mod audit;
 mod closing;
 mod judge;
 pub mod laws;
-mod wrong;
 mod written;
+mod wrong;
 
 pub use audit::Audit;
 pub use upi_base::{AuditWhy, EngineFault, Verdict};

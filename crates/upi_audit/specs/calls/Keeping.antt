@@ -1,5 +1,5 @@
 -- What an audit keeps, and of which journal that is.
-use Rattle.std.specs.Prelude.{ℕ, ◌≡◌, ◌+◌, Bool, true, false, List, [], ◌∷◌, ◌++◌, length, Option, Some, None}
+use Rattle.std.specs.Prelude.{ℕ, ◌≡◌, ◌+◌, ◌⊎◌, Bool, true, false, List, [], ◌∷◌, ◌++◌, length, Option, Some, None}
 use Rattle.upi_words.specs.Prelude.{AuditWhy, Entry, History, Legal, Setup, Text, Verdict, is_closed}
 use Rattle.upi_model.specs.Chronicle.{Chronicle}
 use Rattle.upi_model.specs.History.{sent_count}
@@ -7,7 +7,7 @@ use Rattle.upi_text.specs.Setup.{SetupState}
 use Rattle.caller_laws.specs.CallerLaws.{DifferInCallers}
 use Rattle.upi_audit.specs.Journal.{Lined, Journal}
 use Rattle.upi_audit.specs.Lines.{lines_in}
-use Rattle.upi_audit.specs.Verdict.{message_lines, said_of, lines_of, AreOf, report_lines, IsFault, IsFirstWrong, Judges}
+use Rattle.upi_audit.specs.Verdict.{message_lines, said_of, lines_of, AreOf, reported_lines, IsLineFault, IsFirstSpoiled, JudgesJournal}
 use Rattle.upi_audit.specs.declared.wrong.Wrong.{Wrong}
 
 -- of the report that is due: what is still to come, and how many lines have come
@@ -55,12 +55,12 @@ pub record IsWrongNow (S : Setup) (l : Lined) (ls : List Lined) (place : ℕ) (w
   pub lines : ls ≡ lines_of before
   pub placed : place ≡ length before + 1
   pub legal : Legal S before
-  pub fault : (more : List Text) → IsFault S before (record { said = l.said; messages = l.messages ++ more }) why
+  pub fault : (more : List Text) → IsLineFault S before (record { said = l.said; messages = l.messages ++ more }) why
 
 -- an entry is wrong: one before the latest, or that
 abbrev pub IsWrong : Setup → List Lined → ℕ → AuditWhy → Type 0
 IsWrong S [] place why = ⊥
-IsWrong S (l ∷ ls) place why = IsFirstWrong S ls place why ⊎ IsWrongNow S l ls place why
+IsWrong S (l ∷ ls) place why = IsFirstSpoiled S ls place why ⊎ IsWrongNow S l ls place why
 
 -- what is known before REPORT
 abbrev pub IsJudged : Setup → List Lined → History → ℕ → Option Wrong → Type 0
@@ -72,27 +72,27 @@ pub record IsReporting (S : Setup) (ls : List Lined) (report : List Text) (due :
   pub history : History
   pub lines : AreOf S ls history
   pub closed : is_closed history ≡ true
-  pub rest : report_lines S history ≡ report ++ lines_in due.rest
+  pub rest : reported_lines S history ≡ report ++ lines_in due.rest
   pub count : due.lines ≡ length report
 
 -- what is known after REPORT: what is wrong is the verdict, whatever lines follow
 abbrev pub IsEnding : Setup → List Lined → List Text → Due → Option Wrong → Type 0
 IsEnding S ls report due None = IsReporting S ls report due
-IsEnding S ls report due (Some w) = (more : List Text) → Judges S ls (report ++ more) (Verdict.No w.place w.why)
+IsEnding S ls report due (Some w) = (more : List Text) → JudgesJournal S ls (report ++ more) (Verdict.No w.place w.why)
 
 -- what is known, before REPORT and after it
-abbrev pub IsKnown : Setup → List Lined → Option (List Text) → Bench → Option Due → Type 0
-IsKnown S ls None b None = IsJudged S ls b.core.history b.matched b.wrong
-IsKnown S ls (Some report) b (Some due) = IsEnding S ls report due b.wrong
-IsKnown S ls None b (Some due) = ⊥
-IsKnown S ls (Some report) b None = ⊥
+abbrev pub IsKnownOf : Setup → List Lined → Option (List Text) → Bench → Option Due → Type 0
+IsKnownOf S ls None b None = IsJudged S ls b.core.history b.matched b.wrong
+IsKnownOf S ls (Some report) b (Some due) = IsEnding S ls report due b.wrong
+IsKnownOf S ls None b (Some due) = ⊥
+IsKnownOf S ls (Some report) b None = ⊥
 
 -- this is kept of a journal after OPEN
 pub record IsBenchOf (j : Journal) (b : Bench) : Type 0 where
   pub opened : j.setup.is_open ≡ true
   pub setup : b.core.setup ≡ j.setup.lines
   pub entries : b.entries ≡ length j.entries
-  pub known : IsKnown j.setup.lines j.entries j.report b b.due
+  pub known : IsKnownOf b.core.setup j.entries j.report b b.due
 
 -- this is kept of a journal
 abbrev pub IsKept : Journal → SetupState → Option Bench → Type 0

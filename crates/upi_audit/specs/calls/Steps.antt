@@ -1,5 +1,5 @@
 -- What private functions do.
-use Rattle.std.specs.Prelude.{ℕ, ◌≡◌, ◌+◌, ◌==◌, nat_lt, Bool, true, false, not, ◌&&◌, ¬, if◌then◌else◌, List, [], ◌∷◌, length, Option, Some, None, Result, Ok, Err}
+use Rattle.std.specs.Prelude.{ℕ, ◌≡◌, ◌+◌, ◌==◌, nat_lt, Bool, true, false, not, ◌&&◌, if◌then◌else◌, List, [], ◌∷◌, length, Option, Some, None, Result, Ok, Err}
 use Rattle.std.specs.Option.{option_or}
 use Rattle.std.specs.Str.{bytes_eq}
 use Rattle.upi_words.specs.Prelude.{AuditWhy, History, Sent, Setup, Text, Verdict, is_closed}
@@ -31,21 +31,21 @@ after_line [] = []
 after_line (c ∷ cs) = if c == 10 then cs else after_line cs
 
 -- a line of the report is due, and it is this
-abbrev pub is_next : Due → Text → Bool
-is_next d line = not (length d.rest == 0) && bytes_eq (first_line d.rest) line
+abbrev pub is_next_line : Due → Text → Bool
+is_next_line d line = not (length d.rest == 0) && bytes_eq line (first_line d.rest)
 
 -- the next line of the report has come
-abbrev pub taken : Due → Due
-taken d = record { rest = after_line d.rest; lines = d.lines + 1 }
+abbrev pub next_taken : Due → Due
+next_taken d = record { rest = after_line d.rest; lines = d.lines + 1 }
 
 -- a line of the report is taken where it is the next one
 abbrev pub TakeAnswer : Due → Text → Due → Bool → Type 0
-TakeAnswer d line new true = (is_next d line ≡ true) × (new ≡ taken d)
-TakeAnswer d line new false = (is_next d line ≡ false) × (new ≡ d)
+TakeAnswer d line new true = (is_next_line d line ≡ true) × (new ≡ next_taken d)
+TakeAnswer d line new false = (is_next_line d line ≡ false) × (new ≡ d)
 
 -- what is kept right after OPEN
-abbrev pub opened : Setup → Bench
-opened S = record { core = record { setup = S; history = [] }; entries = 0; matched = 0; wrong = None; due = None }
+abbrev pub just_opened : Setup → Bench
+just_opened S = record { core = record { setup = S; history = [] }; entries = 0; matched = 0; wrong = None; due = None }
 
 -- the latest entry is wrong for this reason
 abbrev pub now_wrong : Bench → AuditWhy → Wrong
@@ -65,8 +65,8 @@ is_line_of n None line = false
 is_line_of n (Some s) line = bytes_eq (message_line n s) line
 
 -- the line is the M line that is due
-abbrev pub is_due : Bench → Text → Bool
-is_due b line = nat_lt b.matched (sent_count b.core.history) && is_line_of (b.matched + 1) (message_at b.core.history (b.matched + 1)) line
+abbrev pub is_due_line : Bench → Text → Bool
+is_due_line b line = nat_lt b.matched (sent_count b.core.history) && is_line_of (b.matched + 1) (message_at b.core.history (b.matched + 1)) line
 
 -- an M line where nothing was wrong
 abbrev pub message_judged : Bench → Bool → Bench
@@ -75,7 +75,7 @@ message_judged b false = record { core = b.core; entries = b.entries; matched = 
 
 -- an M line: where something is wrong already, it doesn't count
 abbrev pub message_step : Bench → Text → Option Wrong → Bench
-message_step b line None = message_judged b (is_due b line)
+message_step b line None = message_judged b (is_due_line b line)
 message_step b line (Some w) = b
 
 -- REPORT: what is wrong by then, and the report that is due
@@ -90,12 +90,12 @@ report_step b = record {
 
 -- a line of the report where nothing was wrong
 abbrev pub report_judged : Bench → Due → Bool → Bench
-report_judged b d true = record { core = b.core; entries = b.entries; matched = b.matched; wrong = b.wrong; due = Some (taken d) }
+report_judged b d true = record { core = b.core; entries = b.entries; matched = b.matched; wrong = b.wrong; due = Some (next_taken d) }
 report_judged b d false = record { core = b.core; entries = b.entries; matched = b.matched; wrong = Some (record { place = d.lines + 1; why = AuditWhy.Report }); due = Some d }
 
 -- a line of the report: where something is wrong already, it doesn't count
 abbrev pub report_line_step : Bench → Due → Text → Option Wrong → Bench
-report_line_step b d line None = report_judged b d (is_next d line)
+report_line_step b d line None = report_judged b d (is_next_line d line)
 report_line_step b d line (Some w) = b
 
 -- a call that may not come, or that has another reply
@@ -107,9 +107,9 @@ IsEarlyFault S h e AuditWhy.NoClose = ⊥
 IsEarlyFault S h e AuditWhy.Report = ⊥
 
 -- a call is played, and has this reply; or why not
-abbrev pub PlayAnswer : Chronicle → EntryLine → Chronicle → Option AuditWhy → Type 0
-PlayAnswer c e new None = (may_come c.setup c.history e.call ≡ true) × (e.reply ≡ reply_to c.setup c.history e.call e.at) × (new ≡ with_call c e.call e.at)
-PlayAnswer c e new (Some why) = IsEarlyFault c.setup c.history e why × (new.setup ≡ c.setup)
+abbrev pub PlayedAnswer : Chronicle → EntryLine → Chronicle → Option AuditWhy → Type 0
+PlayedAnswer c e new None = (may_come c.setup c.history e.call ≡ true) × (e.reply ≡ reply_to c.setup c.history e.call e.at) × (new ≡ with_call c e.call e.at)
+PlayedAnswer c e new (Some why) = IsEarlyFault c.setup c.history e why × (new.setup ≡ c.setup)
 
 -- what is wrong with an entry at a place
 abbrev pub wrong_at : ℕ → Option AuditWhy → Option Wrong
@@ -119,7 +119,7 @@ wrong_at place (Some why) = Some (record { place = place; why = why })
 -- an E line: something was wrong before it, or its call is played
 abbrev pub EntryAnswer : Bench → EntryLine → Bench → Option Wrong → Type 0
 EntryAnswer b e new (Some w) = new ≡ record { core = b.core; entries = e.place; matched = b.matched; wrong = Some w; due = b.due }
-EntryAnswer b e new None = (why : Option AuditWhy) × (PlayAnswer b.core e new.core why) × (new ≡ record { core = new.core; entries = e.place; matched = b.matched; wrong = wrong_at e.place why; due = b.due })
+EntryAnswer b e new None = (why : Option AuditWhy) × (PlayedAnswer b.core e new.core why) × (new ≡ record { core = new.core; entries = e.place; matched = b.matched; wrong = wrong_at e.place why; due = b.due })
 
 -- a line between OPEN and REPORT that says this
 abbrev pub StepAnswer : Bench → Text → Bench → JournalLine → Type 0

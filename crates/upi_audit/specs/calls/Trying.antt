@@ -6,18 +6,18 @@ use Rattle.upi_text.specs.Refusals.{refusal}
 use Rattle.upi_text.specs.Setup.{SetupState, setup_read, state_after, unread}
 use Rattle.upi_text.specs.declared.setup.SetupRead.{SetupRead}
 use Rattle.upi_audit.specs.calls.Keeping.{AuditState, Bench}
-use Rattle.upi_audit.specs.calls.Steps.{BenchAnswer, opened}
+use Rattle.upi_audit.specs.calls.Steps.{BenchAnswer, just_opened}
 
 -- what is kept where a line of a setup was read: at OPEN there is a switch over it
 abbrev pub SetupTaken : SetupState → SetupState → Option Bench → Type 0
 SetupTaken S new None = (new ≡ S) × (S.is_open ≡ false)
-SetupTaken S new (Some b) = (S.is_open ≡ true) × (b ≡ opened S.lines)
+SetupTaken S new (Some b) = (S.is_open ≡ true) × (b ≡ just_opened S.lines)
 
 -- a line of a setup was read, or refused
-abbrev pub SetupAnswer : SetupState → Text → AuditState → Result (Unit {0}) EngineFault → Type 0
-SetupAnswer S line new (Ok u) = (r : SetupRead) × (setup_read S line ≡ Ok r) × SetupTaken (state_after S r) new.setup new.bench
-SetupAnswer S line new (Err (EngineFault.Bad field why)) = (setup_read S line ≡ Err (refusal field why)) × (new.setup ≡ S) × (new.bench ≡ None)
-SetupAnswer S line new (Err EngineFault.NoMemory) = Unit {0}
+abbrev pub SetupLineAnswer : SetupState → Text → AuditState → Result (Unit {0}) EngineFault → Type 0
+SetupLineAnswer S line new (Ok u) = (r : SetupRead) × (setup_read S line ≡ Ok r) × SetupTaken (state_after S r) new.setup new.bench
+SetupLineAnswer S line new (Err (EngineFault.Bad field why)) = (setup_read S line ≡ Err (refusal field why)) × (new.setup ≡ S) × (new.bench ≡ None)
+SetupLineAnswer S line new (Err EngineFault.NoMemory) = Unit {0}
 
 -- a judge has read a line
 abbrev pub JudgeAnswer : SetupState → Bench → Text → SetupState → Option Bench → Result (Unit {0}) EngineFault → Type 0
@@ -26,7 +26,7 @@ JudgeAnswer S b line setup (Some new) result = (setup ≡ S) × BenchAnswer b li
 
 -- a line was read, before OPEN or after it
 abbrev pub TryAnswer : SetupState → Option Bench → Text → AuditState → Result (Unit {0}) EngineFault → Type 0
-TryAnswer S None line new result = SetupAnswer S line new result
+TryAnswer S None line new result = SetupLineAnswer S line new result
 TryAnswer S (Some b) line new result = JudgeAnswer S b line new.setup new.bench result
 
 -- at want of memory there is none from now on
