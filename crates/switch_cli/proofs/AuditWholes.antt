@@ -6,7 +6,7 @@ use Rattle.upi_io.specs.declared.status.Status.{Status}
 use Rattle.upi_text.specs.Refusals.{refusal}
 use Rattle.upi_text.specs.declared.refusal.Refusal.{Refusal}
 use Rattle.upi_audit.specs.Journal.{Journal}
-use Rattle.upi_audit.specs.Verdict.{Judges}
+use Rattle.upi_audit.specs.Verdict.{JudgesJournal}
 use Rattle.switch_cli.specs.Lines.{BeginWith, IsOver}
 use Rattle.switch_cli.specs.Audited.{journal_of, verdict_status, Tells, IsNoLine, EndsUnreported, IsBadJournal, Audited, IsJournal, IsToldWhole, AuditCompletes}
 use Rattle.switch_cli.proofs.Audits.{refused_line}
@@ -48,7 +48,7 @@ whole_told bytes left before after texts j k v e t whole =
       verdict = v;
       report = t.judged.report;
       reported = ap (λ (x : Journal). x.report) (sym same) ∙ t.judged.reported;
-      judges = subst (λ (x : Journal). Judges x.setup.lines x.entries t.judged.report v) same t.judged.judges;
+      judges = subst (λ (x : Journal). JudgesJournal x.setup.lines x.entries t.judged.report v) same t.judged.judges;
       wrote = t.wrote;
       ends = refl;
     }

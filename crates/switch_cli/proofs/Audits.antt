@@ -9,8 +9,8 @@ use Rattle.upi_io.specs.declared.lines.LineFault.{LineFault}
 use Rattle.upi_io.specs.declared.status.Status.{Status}
 use Rattle.upi_text.specs.Refusals.{◌>>=◌, refusal}
 use Rattle.upi_text.specs.declared.refusal.Refusal.{Refusal}
-use Rattle.upi_audit.specs.Audit.{Ends, Reads}
-use Rattle.upi_audit.specs.Journal.{Journal, blank, with_line}
+use Rattle.upi_audit.specs.Audit.{ReadsEnd, ReadsLine}
+use Rattle.upi_audit.specs.Journal.{Journal, blank_journal, with_line}
 use Rattle.upi_audit.specs.Written.{verdict_text}
 use Rattle.upi_audit.specs.calls.Keeping.{AuditState, HasRead}
 use Rattle.switch_cli.specs.declared.script.Stop.{Stop}
@@ -36,25 +36,25 @@ lines_append j (l ∷ ls) ms = go (with_line j l) (λ k. lines_append k ls ms)
 -- one line more
 one_line : (texts : List Text) (l : Text) (j k : Journal) → journal_of texts ≡ Ok j → with_line j l ≡ Ok k → journal_of (texts ++ l ∷ []) ≡ Ok k
 one_line texts l j k e f =
-    lines_append blank texts (l ∷ [])
+    lines_append blank_journal texts (l ∷ [])
     ∙ ap (λ (r : Result Journal Refusal). r >>= λ (x : Journal). with_lines x (l ∷ [])) e
     ∙ ap (λ (r : Result Journal Refusal). r >>= λ (x : Journal). with_lines x []) f
 
 -- a line that is refused, and others behind it
 pub refused_line : (texts later : List Text) (l : Text) (j : Journal) (e : Refusal) → journal_of texts ≡ Ok j → with_line j l ≡ Err e → journal_of (texts ++ l ∷ later) ≡ Err e
 refused_line texts later l j e is f =
-    lines_append blank texts (l ∷ later)
+    lines_append blank_journal texts (l ∷ later)
     ∙ ap (λ (r : Result Journal Refusal). r >>= λ (x : Journal). with_lines x (l ∷ later)) is
     ∙ ap (λ (r : Result Journal Refusal). r >>= λ (x : Journal). with_lines x later) f
 
 -- ---- from step to step
 
 -- nothing was read yet
-pub audit_begins : (source : Option Text) (a : AuditState) → HasRead blank a → AuditGoing source (prepend_known [] source) 0 a
-audit_begins source a has = record { texts = []; journal = blank; count = refl; reads = refl; has = has; read = none_read source }
+pub audit_begins : (source : Option Text) (a : AuditState) → HasRead blank_journal a → AuditGoing source (prepend_known [] source) 0 a
+audit_begins source a has = record { texts = []; journal = blank_journal; count = refl; reads = refl; has = has; read = none_read source }
 
 -- a line was read
-goes_on : (source ahead after left : Option Text) (n : ℕ) (a new : AuditState) (text : Text) → AuditGoing source ahead n a → Finds n ahead after left text (Ok Line.Got) → Reads a text new (Ok tt) → AuditGoing source after (n + 1) new
+goes_on : (source ahead after left : Option Text) (n : ℕ) (a new : AuditState) (text : Text) → AuditGoing source ahead n a → Finds n ahead after left text (Ok Line.Got) → ReadsLine a text new (Ok tt) → AuditGoing source after (n + 1) new
 goes_on source ahead after left n a new text g f r =
     let m = r g.journal g.has in
     record {

@@ -8,8 +8,8 @@ use Rattle.upi_io.specs.declared.lines.TheConstants.{MAX_LINES}
 use Rattle.upi_io.specs.declared.status.Status.{Status}
 use Rattle.upi_text.specs.Refusals.{◌>>=◌, refusal}
 use Rattle.upi_text.specs.declared.refusal.Refusal.{Refusal}
-use Rattle.upi_audit.specs.Journal.{Journal, blank, with_line}
-use Rattle.upi_audit.specs.Verdict.{Judges}
+use Rattle.upi_audit.specs.Journal.{Journal, blank_journal, with_line}
+use Rattle.upi_audit.specs.Verdict.{JudgesJournal}
 use Rattle.upi_audit.specs.Written.{verdict_text}
 use Rattle.switch_cli.specs.Lines.{is_short, AreRead, IsAny, IsOver, IsCutAt, IsNext, IsLong}
 use Rattle.switch_cli.specs.Run.{AreTooMany}
@@ -21,7 +21,7 @@ with_lines j (l ∷ ls) = with_line j l >>= λ (k : Journal). with_lines k ls
 
 -- the journal of these lines
 abbrev pub journal_of : List Text → Result Journal Refusal
-journal_of lines = with_lines blank lines
+journal_of lines = with_lines blank_journal lines
 
 -- the status of a verdict
 abbrev pub verdict_status : Verdict → Status
@@ -57,7 +57,7 @@ pub record IsJudged (source left : Option Text) (texts : List Text) (j : Journal
   pub over : AreRead source texts (IsOver left)
   pub report : List Text
   pub reported : j.report ≡ Some report
-  pub judges : Judges j.setup.lines j.entries report v
+  pub judges : JudgesJournal j.setup.lines j.entries report v
 
 -- that verdict, written
 pub record Tells (source left before after : Option Text) (texts : List Text) (j : Journal) (v : Verdict) : Type 0 where
@@ -136,7 +136,7 @@ pub record IsToldWhole (j : Journal) (before after : Option Text) (s : Status) :
   pub verdict : Verdict
   pub report : List Text
   pub reported : j.report ≡ Some report
-  pub judges : Judges j.setup.lines j.entries report verdict
+  pub judges : JudgesJournal j.setup.lines j.entries report verdict
   pub wrote : Appends before after (verdict_text verdict)
   pub ends : s ≡ verdict_status verdict
 

@@ -3,7 +3,7 @@ ghost use Rattle.std.specs.Prelude.{◌≡◌, ◌≢◌, ◌≤◌, ◌+◌, �
 ghost use Rattle.upi_words.specs.Prelude.{Verdict as AVerdict};
 ghost use Rattle.upi_io.specs.Faults.{Rose};
 ghost use Rattle.upi_io.specs.Lines.{ahead};
-ghost use Rattle.upi_audit.specs.Journal.{blank};
+ghost use Rattle.upi_audit.specs.Journal.{blank_journal};
 ghost use Rattle.upi_audit.specs.calls.Keeping.{HasRead};
 ghost use Rattle.switch_cli.specs.Audited.{Audited, IsEnd, TellsVerdict, verdict_status};
 ghost use Rattle.switch_cli.specs.calls.AuditSteps.{AuditStep, Judged};
@@ -37,13 +37,13 @@ fn step<S: Source>(
     }
 }
 
-// Judges the lines of a source by an audit that has read nothing.
+// JudgesJournal the lines of a source by an audit that has read nothing.
 fn judge_lines<S: Source>(
     audit: &mut Audit,
     alloc: Global,
     source: &mut S,
 ) -> Result<Verdict, Status>
-    requires { HasRead blank audit.old }
+    requires { HasRead blank_journal audit.old }
     ensures judged { Judged (S.left source.old) (S.left source.new) result }
     ensures ended { (v : AVerdict) → result ≡ Ok v → S.ended source.new ≡ true }
     ensures reads { S.faults source.old ≤ S.faults source.new }
@@ -62,7 +62,7 @@ fn judge_lines<S: Source>(
     }
 }
 
-// Judges the lines of a source.
+// JudgesJournal the lines of a source.
 fn judge<S: Source>(alloc: Global, source: &mut S) -> Result<Verdict, Status>
     ensures judged { Judged (S.left source.old) (S.left source.new) result }
     ensures ended { (v : AVerdict) → result ≡ Ok v → S.ended source.new ≡ true }

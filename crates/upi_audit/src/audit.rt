@@ -58,7 +58,7 @@ impl Audit {
             SetupStep::More => Ok(()),
             SetupStep::Opened => {
                 let text = mem::replace(&mut self.setup, SetupText::new(self.alloc));
-                self.judge = Some(Judge::new(self.alloc, text.into_setup())?);
+                self.judge = Some(Judge::new(self.alloc, text.into_directory())?);
                 Ok(())
             }
         }

@@ -13,10 +13,9 @@ use recon_report::report;
 use std::alloc::Global;
 use std::marker::Model;
 use switch_core::{Core, CoreFault};
-use upi_base::{
-    AuditWhy, Call, EngineFault, NoMemory, Reply, Sent, Setup, SetupLine, Verdict, has_psp,
-};
+use upi_base::{AuditWhy, Call, EngineFault, NoMemory, Reply, Sent, Verdict};
 use upi_text::message_line;
+use vpa_directory::Directory;
 
 /// What judges a journal after OPEN. Contracts see the switch that plays its calls, how many entries
 /// and messages were read, what is wrong first, and the report that is due.
@@ -49,11 +48,11 @@ fn same_reply(a: Reply, b: Reply) -> bool
 }
 
 // Whether the PSP of a Hear is in the setup.
-fn is_known(lines: &[SetupLine], call: &Call) -> bool
-    ensures { result ≡ knows lines.now call.now }
+fn is_known(directory: &Directory, call: &Call) -> bool
+    ensures { result ≡ knows directory.now.lines call.now }
 {
     match call {
-        Call::Hear { psp, input: _input } => has_psp(lines, psp.bytes()),
+        Call::Hear { psp, input: _input } => directory.has_psp(psp),
         _ => true,
     }
 }
@@ -62,7 +61,7 @@ fn is_known(lines: &[SetupLine], call: &Call) -> bool
 fn play(core: &mut Core, line: EntryLine) -> Result<Option<AuditWhy>, NoMemory>
     ensures { IfOk result (λ why. Steps.PlayedAnswer core.old line core.new why) }
 {
-    if !is_known(core.lines(), &line.call) {
+    if !is_known(core.directory(), &line.call) {
         return Ok(Some(AuditWhy::Call));
     }
     match core.apply(line.call, line.at) {
@@ -109,24 +108,21 @@ fn wrong_at(place: u64, why: Option<AuditWhy>) -> Option<Wrong>
 }
 
 impl Judge {
-    /// A judge of a journal with an accepted setup, after OPEN.
-    pub(crate) fn new(alloc: Global, setup: Setup) -> Result<Judge, NoMemory>
-        ensures { IfOk result (λ j. j ≡ Steps.just_opened setup.lines) }
+    /// A judge of a journal over the setup of a directory, after OPEN.
+    pub(crate) fn new(alloc: Global, directory: Directory) -> Result<Judge, NoMemory>
+        ensures { IfOk result (λ j. j ≡ Steps.opened directory.lines) }
     {
-        match Core::new(alloc, setup) {
-            Ok(core) => Ok(Judge {
-                alloc,
-                core,
-                lines: JournalReader::new(alloc),
-                text: Vec::new(alloc),
-                entries: 0,
-                matched: 0,
-                wrong: None,
-                due: None,
-            }),
-            // The setup was accepted line by line, so that only memory can be wanting.
-            Err(_at) => Err(NoMemory),
-        }
+        let core = Core::over(alloc, directory)?;
+        Ok(Judge {
+            alloc,
+            core,
+            lines: JournalReader::new(alloc),
+            text: Vec::new(alloc),
+            entries: 0,
+            matched: 0,
+            wrong: None,
+            due: None,
+        })
     }
 
     // That messages of the latest entry have no M line.
@@ -210,7 +206,7 @@ impl Judge {
         let balances = self.core.balances()?;
         let text = report(
             self.alloc,
-            self.core.lines(),
+            self.core.directory(),
             &rows,
             &balances,
             self.core.flight(),

@@ -5,7 +5,7 @@ use Rattle.upi_base.specs.declared.fault.EngineFault.{EngineFault}
 use Rattle.upi_io.specs.declared.lines.TheConstants.{MAX_LINES}
 use Rattle.upi_io.specs.declared.lines.Line.{Line}
 use Rattle.upi_io.specs.declared.status.Status.{Status}
-use Rattle.upi_audit.specs.Audit.{Reads, Ends}
+use Rattle.upi_audit.specs.Audit.{ReadsLine, ReadsEnd}
 use Rattle.upi_audit.specs.Journal.{Journal}
 use Rattle.upi_audit.specs.calls.Keeping.{AuditState, HasRead}
 use Rattle.switch_cli.specs.Audited.{journal_of, IsJudged, AuditStops}
@@ -15,13 +15,13 @@ use Rattle.switch_cli.specs.declared.script.Stop.{Stop}
 
 -- a line that was found is refused, or the end comes too soon
 abbrev pub Refuses : AuditState → Text → AuditState → Line → ℕ → Why → Type 0
-Refuses a line new Line.Got field w = Reads a line new (Err (EngineFault.Bad field w))
-Refuses a line new Line.End field w = Ends a (Err (EngineFault.Bad field w))
+Refuses a line new Line.Got field w = ReadsLine a line new (Err (EngineFault.Bad field w))
+Refuses a line new Line.End field w = ReadsEnd a (Err (EngineFault.Bad field w))
 
 -- a step at the line after so many: a line is read, or there is none and this is the verdict, or the audit stops
 abbrev pub AuditStep : ℕ → Option Text → Option Text → Option Text → Text → AuditState → AuditState → Result (Option Verdict) Stop → Type 0
-AuditStep n ahead rest left line a new (Ok None) = Finds n ahead rest left line (Ok Line.Got) × Reads a line new (Ok tt)
-AuditStep n ahead rest left line a new (Ok (Some v)) = Finds n ahead rest left line (Ok Line.End) × Ends a (Ok v)
+AuditStep n ahead rest left line a new (Ok None) = Finds n ahead rest left line (Ok Line.Got) × ReadsLine a line new (Ok tt)
+AuditStep n ahead rest left line a new (Ok (Some v)) = Finds n ahead rest left line (Ok Line.End) × ReadsEnd a (Ok v)
 AuditStep n ahead rest left line a new (Err (Stop.Read fault)) = Finds n ahead rest left line (Err fault)
 AuditStep n ahead rest left line a new (Err (Stop.Play (EngineFault.Bad field w))) = (found : Line) × Finds n ahead rest left line (Ok found) × Refuses a line new found field w
 AuditStep n ahead rest left line a new (Err (Stop.Play EngineFault.NoMemory)) = Unit {0}
