@@ -43,11 +43,15 @@ some_left n text lt e =
 
 -- the sink takes a front of what was collected
 pub cut_out : (whole : Text) (before now after : Option Text) (text : Text) (n : ℕ) → n < length text → WritesFront whole before now text → Appends now after (take n text) → StopsIn whole before after Stop.Write
-cut_out whole before now after text n lt w a = (drop n text, some_left n text lt, record {
-  front = w.front ++ take n text;
-  whole = w.whole ∙ ap (λ (t : Text). w.front ++ t) (sym (take-append-drop n text)) ∙ sym (append_assoc w.front (take n text) (drop n text));
-  wrote = Appends-trans before now after w.front (take n text) w.wrote a;
-})
+cut_out whole before now after text n lt w a = (
+  drop n text,
+  some_left n text lt,
+  record {
+    front = w.front ++ take n text;
+    whole = w.whole ∙ ap (λ (t : Text). w.front ++ t) (sym (take-append-drop n text)) ∙ sym (append_assoc w.front (take n text) (drop n text));
+    wrote = Appends-trans before now after w.front (take n text) w.wrote a;
+  },
+)
 
 -- what was collected is handed on
 pub handed_on : (whole : Text) (before now after : Option Text) (text left : Text) (r : Result (Unit {0}) Stop) → WritesFront whole before now text → HandsOn now after text left r → Collects whole before after left r

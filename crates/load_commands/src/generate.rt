@@ -72,12 +72,7 @@ fn write_lines<K: Sink>(count: u32, seed: u32, sink: &mut K, text: &mut Vec<u8>)
 }
 
 /// Writes a load, and what is left at the end.
-fn write_all_lines<K: Sink>(
-    alloc: Global,
-    count: u32,
-    seed: u32,
-    sink: &mut K,
-) -> Result<(), Stop>
+fn write_all_lines<K: Sink>(alloc: Global, count: u32, seed: u32, sink: &mut K) -> Result<(), Stop>
     requires count { count ≤ MAX_COUNT }
     requires seed { seed ≤ MAX_SEED }
     ensures collects { Collects (generated count seed) (K.taken sink.old) (K.taken sink.new) [] result }

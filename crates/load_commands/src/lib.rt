@@ -1,8 +1,8 @@
 //! The commands `gen` and `load`: what they write into a sink, and how they end.
 #![tactic(auto)]
 
-mod stop;
 pub mod generate;
+mod stop;
 pub mod sum_up;
 
 pub use generate::write_load;

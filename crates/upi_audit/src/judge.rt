@@ -110,7 +110,7 @@ fn wrong_at(place: u64, why: Option<AuditWhy>) -> Option<Wrong>
 impl Judge {
     /// A judge of a journal over the setup of a directory, after OPEN.
     pub(crate) fn new(alloc: Global, directory: Directory) -> Result<Judge, NoMemory>
-        ensures { IfOk result (λ j. j ≡ Steps.opened directory.lines) }
+        ensures { IfOk result (λ j. j ≡ Steps.just_opened directory.lines) }
     {
         let core = Core::over(alloc, directory)?;
         Ok(Judge {

@@ -33,7 +33,7 @@ payments-preserved g c =
     let line = ended (next_send c.payments.sends.seed c.payments.sends.count) in
     let next : line ≡ ended (next_send seed n) = ap (λ (s : Made). ended (next_send s.seed s.count)) i.made in
     let whole : (whole_setup ++ sends_text seed n) ++ line ≡ whole_setup ++ sends_text seed (n + 1) =
-        ap (λ (t : Text). (whole_setup ++ sends_text seed n) ++ t) next ∙ one_payment seed n in
+    ap (λ (t : Text). (whole_setup ++ sends_text seed n) ++ t) next ∙ one_payment seed n in
     let collected = c.in_ok-write_next.ensures.collects (whole_setup ++ sends_text seed n) sink i.collected in
     record {
       made = c.in_ok-write_next.ensures.made ∙ ap (λ (s : Made). record { seed = s.seed; count = s.count + 1 }) i.made;
@@ -52,7 +52,7 @@ returns-in_err-write_next-clause-collects g c =
     let line = ended (next_send c.payments.sends.seed c.payments.sends.count) in
     let next : line ≡ ended (next_send seed n) = ap (λ (s : Made). ended (next_send s.seed s.count)) i.made in
     let whole : (whole_setup ++ sends_text seed n) ++ line ≡ whole_setup ++ sends_text seed (n + 1) =
-        ap (λ (t : Text). (whole_setup ++ sends_text seed n) ++ t) next ∙ one_payment seed n in
+    ap (λ (t : Text). (whole_setup ++ sends_text seed n) ++ t) next ∙ one_payment seed n in
     let stops = c.in_err-write_next.ensures.collects (whole_setup ++ sends_text seed n) sink i.collected in
     let there = subst (λ (t : Text). StopsIn t sink after stop) whole stops in
     let all = load_stops c.args.count seed (n + 1) sink after stop (omega (arith, c.payments-test.true)) there in
