@@ -50,7 +50,9 @@ fn fault_not_told(alloc: Global, input: &[u8], reads: bool) -> Result<Option<u64
         };
         let ending = ran_by(alloc, "audit", input, cut)?;
         let is_right = if ending.failed == 0 {
-            bad > 1 && ending.status == Status::Done && ending.text.as_slice() == b"YES 11\n"
+            bad > 1
+                && ending.status == Status::Done
+                && ending.text.as_slice() == b"YES 11\n".as_slice()
         } else if reads {
             ending.status == Status::ReadFault && ending.text.is_empty()
         } else {
