@@ -115,7 +115,6 @@ pub(crate) struct Player {
     core: Core,
     pending: Pending,
     moment: Moment,
-    reader: Reader,
 }
 
 impl Model for Player {
@@ -157,7 +156,6 @@ impl Player {
             core,
             pending: Pending::new(alloc),
             moment: start,
-            reader: Reader::new(alloc),
         })
     }
 
@@ -287,11 +285,16 @@ impl Player {
 
     /// Plays a line behind OPEN. A line that is refused changes nothing. Only at want of memory a
     /// part of it may be played.
-    pub(crate) fn line(&mut self, line: &[u8], out: &mut Vec<u8>) -> Result<(), EngineFault>
+    pub(crate) fn line(
+        &mut self,
+        reader: &mut Reader,
+        line: &[u8],
+        out: &mut Vec<u8>,
+    ) -> Result<(), EngineFault>
         ensures line { PlayAnswer (call_done self.old (call_read self.old.setup.lines self.old.now line.now)) self.old out.old.items out.new.items self.new result }
         ensures sound { IsOpenPlay self.new }
     {
-        let command = call_read(&mut self.reader, self.core.directory(), self.moment, line)?;
+        let command = call_read(reader, self.core.directory(), self.moment, line)?;
         let answer = self.play(command, out);
         let _moment = self.moment;
         let _goes = answer?;
