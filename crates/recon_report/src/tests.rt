@@ -3,8 +3,10 @@ use csv::ReaderBuilder;
 use std::alloc::Global;
 use std::test::Fail;
 use upi_base::{
-    AcNum, AccountRef, BankCode, Code, NoMemory, Outcome, Paise, SetupLine, TxnId, TxnRow,
+    AcNum, AccountRef, BankCode, Code, Moment, NoMemory, Outcome, Paise, Setup, SetupLine,
+    SetupLines, TxnId, TxnRow,
 };
+use vpa_directory::Directory;
 
 mod examples;
 
@@ -13,8 +15,8 @@ fn bank(code: &[u8]) -> Result<BankCode, Fail> {
 }
 
 // A setup with these banks, and lines that give none.
-fn setup(alloc: Global, banks: &[[u8; 4]]) -> Result<Vec<SetupLine>, Fail> {
-    let mut lines = Vec::new(alloc);
+fn setup(alloc: Global, banks: &[[u8; 4]]) -> Result<Directory, Fail> {
+    let mut lines = SetupLines::new(alloc);
     for code in banks {
         lines.push(SetupLine::Bank(bank(code)?))?;
         lines.push(SetupLine::Account {
@@ -24,7 +26,9 @@ fn setup(alloc: Global, banks: &[[u8; 4]]) -> Result<Vec<SetupLine>, Fail> {
             no_credit: false,
         })?;
     }
-    Ok(lines)
+    let start = Moment::of(0).ok_or(NoMemory)?;
+    let directory = Directory::build(alloc, Setup { start, lines }).ok();
+    Ok(directory.ok_or(NoMemory)?)
 }
 
 fn account(code: &[u8]) -> Result<AccountRef, Fail> {

@@ -9,6 +9,7 @@ use crate::{lines, sections};
 use settlement::Settlement;
 use std::alloc::Global;
 use upi_base::{AccountRef, BankCode, NoMemory, SetupLine, TxnRow};
+use vpa_directory::Directory;
 
 // Adds the bank that a line gives, if it gives one.
 fn push_bank(line: &SetupLine, banks: &mut Vec<BankCode>) -> Result<(), NoMemory>
@@ -60,7 +61,7 @@ fn write(
 
 /// The report of a closed history, as the bytes of its lines.
 ///
-/// It has the banks of this setup, in its order. `rows` are the transactions, in opening order;
+/// It has the banks of this directory's setup, in its order. `rows` are the transactions, in opening order;
 /// `balances` are the accounts with what they hold in paise, in setup order; `flight` is the money
 /// in flight, in paise.
 ///
@@ -71,14 +72,14 @@ fn write(
 #[tactic(auto, unfolding(crate::specs::Report::report_of))]
 pub fn report(
     alloc: Global,
-    setup: &[SetupLine],
+    directory: &Directory,
     rows: &[TxnRow],
     balances: &[(AccountRef, u64)],
     flight: u128,
 ) -> Result<Vec<u8>, NoMemory>
-    ensures { IfOk result (λ text. text.items ≡ Report.report_of (Spec.banks setup.now) rows.now balances.now flight) }
+    ensures { IfOk result (λ text. text.items ≡ Report.report_of (Spec.banks directory.now.lines) rows.now balances.now flight) }
 {
-    let banks = banks(alloc, setup)?;
+    let banks = banks(alloc, directory.setup().lines.items())?;
     let settlement = Settlement::of(alloc, rows)?;
     let mut page = Page::new(alloc);
     write(&banks, &settlement, rows, balances, flight, &mut page)?;

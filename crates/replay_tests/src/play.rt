@@ -24,7 +24,7 @@ pub(crate) fn setup_of(alloc: Global, text: &[u8]) -> Result<Setup, Fail> {
         setup.line(b"OPEN", &mut out)?;
     }
     if setup.is_open() {
-        return Ok(setup.into_setup());
+        return Ok(setup.into_directory().into_setup());
     }
     let missing: Option<Setup> = None;
     Ok(missing.ok_or("no OPEN")?)

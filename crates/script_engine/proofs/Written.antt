@@ -5,7 +5,7 @@ use Rattle.upi_words.specs.Prelude.{Call, Setup, SetupLine, History, Text}
 use Rattle.upi_base.specs.declared.limits.TheConstants.{MAX_ENTRIES}
 use Rattle.upi_model.specs.Pending.{lowest_pending}
 use Rattle.upi_model.specs.DueList.{due_list}
-use Rattle.upi_text.specs.Setup.{SetupState, setup_read}
+use Rattle.upi_text.specs.Setup.{SetupState, setup_read, IsPlaced}
 use Rattle.upi_text.specs.SetupText.{line_text, setup_text_of}
 use Rattle.upi_text.specs.Journal.{history_text}
 use Rattle.upi_text.specs.declared.refusal.Refusal.{Refusal}
@@ -17,7 +17,7 @@ use Rattle.script_engine.specs.declared.line.Command.{Command}
 use Rattle.script_engine.specs.Script.{call_read}
 use Rattle.script_engine.specs.Play.{Play, Played, Tried, blank, refusal_text, put_call, tried_by, try_call, behind_text, and_go, try_calls, many, divides, deliver_twice, treat, run_turn, run_turns, lates, tick, played, call_done, take_setup, setup_done, play_line, onto, and_then, play_from}
 use Rattle.script_engine.specs.Writing.{start_part, lines_part, open_part, setup_text, whole_text, Piece, Lines, Remark, written, said, TextIsOfHistory}
-use Rattle.upi_text.proofs.Placed.{IsPlaced, placed}
+use Rattle.upi_text.proofs.Placed.{placed}
 
 -- ---- pieces one after another
 

@@ -7,6 +7,7 @@ use std::alloc::Global;
 use std::marker::Model;
 use std::mem;
 use upi_base::{EngineFault, NoMemory, Summary, Why};
+use upi_msg::Reader;
 use upi_text::{SetupStep, SetupText};
 
 /// An engine. Contracts see what its script has played: the setup, the history and the current
@@ -16,6 +17,7 @@ pub struct Engine {
     alloc: Global,
     setup: SetupText,
     player: Option<Player>,
+    reader: Reader,
     failed: bool,
 }
 
@@ -64,6 +66,7 @@ impl Engine {
             alloc,
             setup: SetupText::new(alloc),
             player: None,
+            reader: Reader::new(alloc),
             failed: false,
         }
     }
@@ -78,7 +81,7 @@ impl Engine {
             SetupStep::More => Ok(()),
             SetupStep::Opened => {
                 let text = mem::replace(&mut self.setup, SetupText::new(self.alloc));
-                let player = Player::new(self.alloc, text.into_setup())?;
+                let player = Player::new(self.alloc, text.into_directory())?;
                 self.player = Some(player);
                 Ok(())
             }
@@ -91,7 +94,7 @@ impl Engine {
         ensures failed { self.new.failed ≡ self.old.failed }
     {
         if let Some(player) = &mut self.player {
-            return player.line(line, out);
+            return player.line(&mut self.reader, line, out);
         }
         self.read_setup(line, out)
     }

@@ -6,11 +6,11 @@ ghost use Rattle.upi_text.specs.Words.{words, number_of};
 ghost use Rattle.script_engine.specs.Script.{within, verb_of, sender, send_line, number_line, repeat_line, run_line, raised, tick_line, close_line, line_of, call_read};
 ghost use Rattle.script_engine.specs.calls.Reading.{MayPlay, ReadAs};
 
-use std::alloc::Global;
 use std::str;
-use upi_base::{EngineFault, Input, Moment, PspName, SetupLine, Why, has_psp};
-use upi_msg::read;
+use upi_base::{EngineFault, Input, Moment, PspName, Why};
+use upi_msg::Reader;
 use upi_text::{Refusal, from_word, is_skipped, number, word, word_count};
+use vpa_directory::Directory;
 
 /// What the first word of a line calls for.
 #[derive(Clone, Copy, Debug, PartialEq, Eq)]
@@ -101,14 +101,14 @@ fn number_within(text: &[u8], least: u64, most: u64) -> Option<u64>
 }
 
 /// The PSP of a SEND line.
-fn sender(lines: &[SetupLine], line: &[u8]) -> Result<PspName, Refusal>
-    ensures sender { result ≡ sender lines.now (words line.now) }
-    ensures known { IfOk result (λ psp. has_psp lines.now psp ≡ true) }
+fn sender(directory: &Directory, line: &[u8]) -> Result<PspName, Refusal>
+    ensures sender { result ≡ sender directory.now.lines (words line.now) }
+    ensures known { IfOk result (λ psp. has_psp directory.now.lines psp ≡ true) }
 {
     match PspName::read(word(line, 1)) {
         None => Err(Refusal::value(2)),
         Some(name) => {
-            if has_psp(lines, name.bytes()) {
+            if directory.has_psp(&name) {
                 Ok(name)
             } else {
                 Err(Refusal {
@@ -121,18 +121,22 @@ fn sender(lines: &[SetupLine], line: &[u8]) -> Result<PspName, Refusal>
 }
 
 #[tactic(auto, unfolding(crate::specs::Script::send_line))]
-fn send_line(alloc: Global, lines: &[SetupLine], line: &[u8]) -> Result<Command, EngineFault>
-    ensures line { ReadAs (send_line lines.now line.now) result }
-    ensures known { IfOk result (MayPlay lines.now) }
+fn send_line(
+    reader: &mut Reader,
+    directory: &Directory,
+    line: &[u8],
+) -> Result<Command, EngineFault>
+    ensures line { ReadAs (send_line directory.now.lines line.now) result }
+    ensures known { IfOk result (MayPlay directory.now.lines) }
 {
     let text = from_word(line, 2);
     if text.len() == 0 {
         return Err(Refusal::other_fields().into());
     }
-    let psp = sender(lines, line)?;
+    let psp = sender(directory, line)?;
     Ok(Command::Send {
         psp,
-        input: read(alloc, text)?,
+        input: reader.read(text)?,
     })
 }
 
@@ -237,18 +241,18 @@ fn is_utf8(text: &[u8]) -> bool
 }
 
 fn line_of(
-    alloc: Global,
-    lines: &[SetupLine],
+    reader: &mut Reader,
+    directory: &Directory,
     now: Moment,
     line: &[u8],
     verb: Option<Verb>,
 ) -> Result<Command, EngineFault>
-    ensures line { ReadAs (line_of lines.now now line.now verb) result }
-    ensures known { IfOk result (MayPlay lines.now) }
+    ensures line { ReadAs (line_of directory.now.lines now line.now verb) result }
+    ensures known { IfOk result (MayPlay directory.now.lines) }
 {
     match verb {
         None => Err(Refusal::no_command().into()),
-        Some(Verb::Send) => send_line(alloc, lines, line),
+        Some(Verb::Send) => send_line(reader, directory, line),
         Some(Verb::Deliver) => Ok(Command::Deliver(number_line(line)?)),
         Some(Verb::Repeat) => {
             let (n, times) = repeat_line(line)?;
@@ -270,13 +274,13 @@ fn line_of(
 /// What a line says behind OPEN, over this setup and at this current moment. A PSP that sends is
 /// of the setup.
 pub(crate) fn call_read(
-    alloc: Global,
-    lines: &[SetupLine],
+    reader: &mut Reader,
+    directory: &Directory,
     now: Moment,
     line: &[u8],
 ) -> Result<Command, EngineFault>
-    ensures line { ReadAs (call_read lines.now now line.now) result }
-    ensures known { IfOk result (MayPlay lines.now) }
+    ensures line { ReadAs (call_read directory.now.lines now line.now) result }
+    ensures known { IfOk result (MayPlay directory.now.lines) }
 {
     if is_skipped(line) {
         return Ok(Command::Skipped);
@@ -284,5 +288,5 @@ pub(crate) fn call_read(
     if !is_utf8(line) {
         return Err(Refusal::not_utf8().into());
     }
-    line_of(alloc, lines, now, line, verb_of(word(line, 0)))
+    line_of(reader, directory, now, line, verb_of(word(line, 0)))
 }

@@ -13,9 +13,11 @@ use std::alloc::Global;
 use std::marker::Model;
 use switch_core::{Core, CoreFault};
 use upi_base::{
-    Call, Done, EngineFault, Entry, MAX_ENTRIES, Moment, NoMemory, Setup, Summary, write_number,
+    Call, Done, EngineFault, Entry, MAX_ENTRIES, Moment, NoMemory, Summary, write_number,
 };
+use upi_msg::Reader;
 use upi_text::entry_text;
+use vpa_directory::Directory;
 
 /// How many turns RUN takes at most: a full journal ends it.
 const TURNS: u64 = MAX_ENTRIES + 1;
@@ -141,23 +143,20 @@ impl Player {
     ghost use Rattle.recon_report.specs.Report.{report_text};
     ghost use Rattle.script_engine.specs.calls.Playing.{IsOpenPlay, opened_play};
 
-    /// A switch that was just opened over an accepted setup.
-    pub(crate) fn new(alloc: Global, setup: Setup) -> Result<Player, NoMemory>
-        ensures play { IfOk result (λ p. p ≡ opened_play setup) }
+    /// A switch that was just opened over the setup of a directory.
+    pub(crate) fn new(alloc: Global, directory: Directory) -> Result<Player, NoMemory>
+        ensures play { IfOk result (λ p. p ≡ opened_play directory) }
         ensures sound { IfOk result IsOpenPlay }
     {
-        let start = setup.start;
-        match Core::new(alloc, setup) {
-            Ok(core) => Ok(Player {
-                alloc,
-                start,
-                core,
-                pending: Pending::new(alloc),
-                moment: start,
-            }),
-            // The setup was accepted line by line, so that only memory can be wanting.
-            Err(_at) => Err(NoMemory),
-        }
+        let start = directory.setup().start;
+        let core = Core::over(alloc, directory)?;
+        Ok(Player {
+            alloc,
+            start,
+            core,
+            pending: Pending::new(alloc),
+            moment: start,
+        })
     }
 
     /// Applies a call at the current moment, and notes the message that it takes.
@@ -286,11 +285,16 @@ impl Player {
 
     /// Plays a line behind OPEN. A line that is refused changes nothing. Only at want of memory a
     /// part of it may be played.
-    pub(crate) fn line(&mut self, line: &[u8], out: &mut Vec<u8>) -> Result<(), EngineFault>
+    pub(crate) fn line(
+        &mut self,
+        reader: &mut Reader,
+        line: &[u8],
+        out: &mut Vec<u8>,
+    ) -> Result<(), EngineFault>
         ensures line { PlayAnswer (call_done self.old (call_read self.old.setup.lines self.old.now line.now)) self.old out.old.items out.new.items self.new result }
         ensures sound { IsOpenPlay self.new }
     {
-        let command = call_read(self.alloc, self.core.lines(), self.moment, line)?;
+        let command = call_read(reader, self.core.directory(), self.moment, line)?;
         let answer = self.play(command, out);
         let _moment = self.moment;
         let _goes = answer?;
@@ -316,7 +320,7 @@ impl Player {
         let balances = self.core.balances()?;
         let text = report(
             self.alloc,
-            self.core.lines(),
+            self.core.directory(),
             &rows,
             &balances,
             self.core.flight(),

@@ -1,6 +1,8 @@
 -- What an engine holds is sound.
 use Rattle.upi_laws.proofs.Promise.{legal_is_sound}
-use Rattle.script_engine.specs.Engine.{EngineState, IsTrue}
+use Rattle.std.proofs.Common.{refl}
+use Rattle.script_engine.specs.Play.{blank}
+use Rattle.script_engine.specs.Engine.{EngineState, IsTrue, fresh}
 use Rattle.switch_cli.specs.Run.{IsTrusted}
 
 -- the setup is accepted and the history legal, so the history is sound
@@ -11,3 +13,7 @@ trusted e holds =
       legal = holds.legal;
       sound = legal_is_sound e.play.setup.lines e.play.history holds.accepted holds.legal;
     }
+
+-- what has read nothing is sound
+pub blank_is_trusted : IsTrusted blank
+blank_is_trusted = trusted fresh (record { accepted = refl; legal = tt })

@@ -2,6 +2,7 @@
 ghost use Rattle.std.specs.Prelude.{◌≡◌, ◌≢◌, ◌<◌, ◌≤◌, ◌+◌, List, ℕ, Some, None, Ok, Err, OnErr, length, true};
 ghost use Rattle.upi_io.specs.Faults.{Rose};
 ghost use Rattle.upi_io.specs.Lines.{ahead, LineSurely};
+ghost use Rattle.script_engine.specs.Engine.{fresh};
 ghost use Rattle.switch_cli.specs.Run.{IsTrusted, Ran};
 ghost use Rattle.switch_cli.specs.calls.Steps.{PlaysAs, played_next, read_status, play_status, status_of, Steps};
 
@@ -134,6 +135,37 @@ fn step<S: Source, K: Sink>(
     Ok(found)
 }
 
+// Plays the lines of a source on an engine that has read nothing. What a line writes is written when it
+// was played.
+fn play_lines<S: Source, K: Sink>(
+    engine: &mut Engine,
+    alloc: Global,
+    source: &mut S,
+    sink: &mut K,
+) -> Status
+    requires { engine.old ≡ fresh }
+    ensures ran { Ran (S.left source.old) (S.left source.new) (K.taken sink.old) (K.taken sink.new) result }
+    ensures read { result ≡ Status.ReadFault → Rose (S.faults source.old) (S.faults source.new) }
+    ensures write { result ≡ Status.WriteFault → Rose (K.faults sink.old) (K.faults sink.new) }
+    ensures reads { S.faults source.old ≤ S.faults source.new }
+    ensures writes { K.faults sink.old ≤ K.faults sink.new }
+    ensures ended { result ≡ Status.Done → S.ended source.new ≡ true }
+    ensures sure { S.sure source.old ≡ true → result ≢ Status.ReadFault }
+    ensures usage { result ≢ Status.Usage }
+{
+    let mut reader = LineReader::new();
+    let mut line = Vec::new(alloc);
+    let mut text = Vec::new(alloc);
+    let mut number = 0u64;
+    'lines: loop {
+        match step(&mut reader, engine, source, sink, &mut line, &mut text) {
+            Ok(Line::Got) => number += 1,
+            Ok(Line::End) => return Status::Done,
+            Err(stop) => return status_of(number + 1, stop),
+        }
+    }
+}
+
 /// Runs a script over the lines of a source. What a line writes is written when it was played.
 pub(crate) fn run_script<S: Source, K: Sink>(alloc: Global, source: &mut S, sink: &mut K) -> Status
     ensures ran { Ran (S.left source.old) (S.left source.new) (K.taken sink.old) (K.taken sink.new) result }
@@ -145,16 +177,6 @@ pub(crate) fn run_script<S: Source, K: Sink>(alloc: Global, source: &mut S, sink
     ensures sure { S.sure source.old ≡ true → result ≢ Status.ReadFault }
     ensures usage { result ≢ Status.Usage }
 {
-    let mut reader = LineReader::new();
     let mut engine = Engine::new(alloc);
-    let mut line = Vec::new(alloc);
-    let mut text = Vec::new(alloc);
-    let mut number = 0u64;
-    'lines: loop {
-        match step(&mut reader, &mut engine, source, sink, &mut line, &mut text) {
-            Ok(Line::Got) => number += 1,
-            Ok(Line::End) => return Status::Done,
-            Err(stop) => return status_of(number + 1, stop),
-        }
-    }
+    play_lines(&mut engine, alloc, source, sink)
 }

@@ -8,9 +8,7 @@ use reasons::{CALLS, FIRST, SETUP_LINES};
 use rows::{LATE_ROWS, OPENED, ROWS};
 use std::alloc::Global;
 use std::test::Fail;
-use upi_base::{
-    AccountRef, Addr, BankCode, Paise, Policy, PspName, SetupLine, Why, setup_fault, write_number,
-};
+use upi_base::{Why, write_number};
 use upi_io::{MemSink, MemSource};
 
 const START: &str = "START 2024-01-01T05:30:00+05:30\n";
@@ -97,7 +95,8 @@ fn ran(alloc: Global, input: &[u8], cut: Cut) -> Result<Ending, Fail> {
     let bad_writes = Vec::from_slice(alloc, &[cut.bad_write])?;
     let piece = cut.piece.max(1);
     let mut source = MemSource::new(Vec::from_slice(alloc, input)?, piece, bad_reads);
-    let mut sink = MemSink::new(alloc, 100_000, piece, bad_writes)?;
+    let room = input.len().saturating_mul(2).max(100_000);
+    let mut sink = MemSink::new(alloc, room, piece, bad_writes)?;
     let status = run(alloc, &Words::of(list), &mut source, &mut sink);
     Ok(Ending {
         status,
@@ -359,64 +358,46 @@ fn at_most_64_banks_and_64_psps(rt: HostRuntime) -> Result<(), Fail> {
     Ok(())
 }
 
-// The account of a number, at bank AAAA.
-fn account(alloc: Global, number: u64) -> Result<AccountRef, Fail> {
-    let mut text = Vec::from_slice(alloc, b"AAAA/")?;
-    write_number(number, &mut text)?;
-    Ok(AccountRef::read(&text).ok_or("an account")?)
+// A line with a number in it.
+fn push_numbered(out: &mut Vec<u8>, start: &str, number: u64, end: &str) -> Result<(), Fail> {
+    out.extend_from_slice(start.as_bytes())?;
+    write_number(number, out)?;
+    out.extend_from_slice(end.as_bytes())?;
+    Ok(())
 }
 
-fn account_line(alloc: Global, number: u64) -> Result<SetupLine, Fail> {
-    Ok(SetupLine::Account {
-        ac: account(alloc, number)?,
-        opening: Paise::of(0).ok_or("a sum")?,
-        no_debit: false,
-        no_credit: false,
-    })
+// As many accounts and addresses as there may be, as they are written.
+fn all_listed(alloc: Global) -> Result<Vec<u8>, Fail> {
+    let mut out = joined(alloc, &[START, "BANK AAAA\nPSP alpha\n"])?;
+    for number in 0..65_536u64 {
+        push_numbered(&mut out, "ACCOUNT AAAA/", number, " 0.00\n")?;
+    }
+    for number in 0..65_536u64 {
+        push_numbered(&mut out, "ADDR ", number, "@alpha AAAA/0 YES\n")?;
+    }
+    Ok(out)
 }
 
-fn address_line(alloc: Global, number: u64) -> Result<SetupLine, Fail> {
-    let mut text = Vec::new(alloc);
-    write_number(number, &mut text)?;
-    text.extend_from_slice(b"@alpha")?;
-    Ok(SetupLine::Address {
-        addr: Addr::read(&text).ok_or("an address")?,
-        ac: account(alloc, 0)?,
-        policy: Policy::Yes,
-    })
-}
-
-// These setups are judged and not read: each line of a script is judged by all before it, which takes
-// long for so many.
+// The next one is one too many then, and one that was given before is refused for that.
 #[test]
 fn at_most_65536_accounts_and_65536_addresses(rt: HostRuntime) -> Result<(), Fail> {
     let alloc = rt.alloc();
-    let mut lines = Vec::new(alloc);
-    lines.push(SetupLine::Bank(BankCode::read(b"AAAA").ok_or("a code")?))?;
-    lines.push(SetupLine::Psp(PspName::read(b"alpha").ok_or("a PSP")?))?;
-    for number in 0..65_536u64 {
-        assert!(rt;
-            number < 65_535 || setup_fault(&lines, &account_line(alloc, number)?).is_none()
-        );
-        lines.push(account_line(alloc, number)?)?;
-    }
-    for (number, why) in [(65_536, Why::Limit), (65_535, Why::Twice)] {
-        assert_eq!(rt;
-            setup_fault(&lines, &account_line(alloc, number)?),
-            Some(why)
-        );
-    }
-    for number in 0..65_536u64 {
-        assert!(rt;
-            number < 65_535 || setup_fault(&lines, &address_line(alloc, number)?).is_none()
-        );
-        lines.push(address_line(alloc, number)?)?;
-    }
-    for (number, why) in [(65_536, Why::Limit), (65_535, Why::Twice)] {
-        assert_eq!(rt;
-            setup_fault(&lines, &address_line(alloc, number)?),
-            Some(why)
-        );
+    let output = all_listed(alloc)?;
+    let lines = [
+        ("ACCOUNT AAAA/65536 0", 1, Why::Limit),
+        ("ACCOUNT AAAA/65535 0", 2, Why::Twice),
+        ("ADDR 65536@alpha AAAA/0 YES", 1, Why::Limit),
+        ("ADDR 65535@alpha AAAA/0 YES", 2, Why::Twice),
+    ];
+    for (line, field, why) in lines {
+        let mut input = Vec::from_slice(alloc, &output)?;
+        input.extend_from_slice(line.as_bytes())?;
+        let bad = Status::BadLine {
+            line: 131_076,
+            field,
+            why,
+        };
+        assert_eq!(rt; ran_to(alloc, &input, &output)?, (bad, true), "{line}");
     }
     Ok(())
 }

@@ -1,7 +1,8 @@
 -- A switch: what holds of it, which calls it refuses, and what an accepted call adds.
-use Rattle.std.specs.Prelude.{ℕ, ◌≡◌, ◌+◌, ◌-◌, ◌==◌, nat_lt, Bool, true, not, ◌||◌, if◌then◌else◌, [], ◌∷◌, Option, Some, None, Result, Ok, Err, length, slice_get}
+use Rattle.std.specs.Prelude.{ℕ, ◌≡◌, ◌≢◌, ◌+◌, ◌-◌, ◌==◌, nat_lt, Bool, true, not, ◌||◌, if◌then◌else◌, [], ◌∷◌, Option, Some, None, Result, Ok, Err, length, slice_get}
 use Rattle.upi_words.specs.Prelude.{Call, Entry, Setup, History, Legal}
 use Rattle.upi_base.specs.declared.entry.Done.{Done}
+use Rattle.upi_base.specs.declared.setup.Setup.{Setup as Directory}
 use Rattle.upi_base.specs.Lists.{when}
 use Rattle.upi_base.specs.Setup.{has_psp, is_setup}
 use Rattle.upi_model.specs.Chronicle.{Chronicle}
@@ -9,23 +10,28 @@ use Rattle.upi_model.specs.History.{past, sent_count}
 use Rattle.upi_model.specs.Legal.{has_room, entry_of}
 use Rattle.upi_model.specs.Replies.{reply_to}
 use Rattle.switch_core.specs.declared.fault.CoreFault.{CoreFault}
-use Rattle.switch_core.specs.declared.fault.SetupFault.{SetupFault}
-use Rattle.switch_core.specs.declared.fault.At.{At}
-use Rattle.switch_core.specs.Setups.{first_refused}
+use Rattle.vpa_directory.specs.declared.fault.SetupFault.{SetupFault}
+use Rattle.vpa_directory.specs.declared.fault.At.{At}
+use Rattle.vpa_directory.specs.Faults.{IsRefusal}
 
 -- what holds of each switch: its setup is accepted, and its history is legal
 pub record IsSwitch (c : Chronicle) : Type 0 where
   pub accepted : is_setup c.setup ≡ true
   pub legal : Legal c.setup c.history
 
+-- this line of a setup is the first that is refused, for this reason; nothing is said where there was no memory
+abbrev pub IsRefusedAt : Setup → At → Type 0
+IsRefusedAt S at = at.fault ≢ SetupFault.NoMemory → IsRefusal S at
+
 -- what a new switch is, or which line of the setup is the first that is refused
 abbrev pub NewAnswer : Setup → Result Chronicle At → Type 0
-NewAnswer S (Ok c) = (first_refused S ≡ None) × (c ≡ record { setup = S; history = [] })
-NewAnswer S (Err at) = IsRefusedAt S at.at at.fault
-  where
-    IsRefusedAt : Setup → ℕ → SetupFault → Type 0
-    IsRefusedAt S place (SetupFault.Refused w) = first_refused S ≡ Some (place, w)
-    IsRefusedAt S place SetupFault.NoMemory = Unit {0}
+NewAnswer S (Ok c) = (is_setup S ≡ true) × (c ≡ record { setup = S; history = [] })
+NewAnswer S (Err at) = IsRefusedAt S at
+
+-- what a switch keeps: its directory is of the setup over which the calls are played
+pub record IsCore (directory : Directory) (c : Chronicle) : Type 0 where
+  pub switch : IsSwitch c
+  pub same : directory.lines ≡ c.setup
 
 -- a PSP that is heard is of the setup
 abbrev pub is_known : Setup → Call → Bool

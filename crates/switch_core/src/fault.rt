@@ -1,23 +1,5 @@
-//! Why a setup or a call is refused.
-use upi_base::{NoMemory, Why};
-
-/// Why a line of a setup is refused.
-#[derive(Clone, Copy, Debug, PartialEq, Eq)]
-pub enum SetupFault {
-    /// The lines before it don't allow it, for this reason.
-    Refused(Why),
-    /// There was no memory.
-    NoMemory,
-}
-
-/// The first line of a setup that is refused.
-#[derive(Clone, Copy, Debug, PartialEq, Eq)]
-pub struct At {
-    /// Its place among the lines, the first being 1; 0 where there was no memory.
-    pub at: u64,
-    /// Why it is refused.
-    pub fault: SetupFault,
-}
+//! Why a call is refused.
+use upi_base::NoMemory;
 
 /// Why a call is refused. It then adds no entry.
 #[derive(Clone, Copy, Debug, PartialEq, Eq)]

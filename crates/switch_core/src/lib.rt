@@ -4,10 +4,9 @@
 
 mod balances;
 pub mod fault;
-mod setup;
 pub mod switch;
 #[cfg(test)]
 mod tests;
 
-pub use fault::{At, CoreFault, SetupFault};
+pub use fault::CoreFault;
 pub use switch::Core;

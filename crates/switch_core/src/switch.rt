@@ -1,35 +1,36 @@
 //! The core: one switch, called by one caller.
 use crate::balances::{all_held, held};
-use crate::fault::{At, CoreFault, SetupFault};
-use crate::setup::first_refused;
+use crate::fault::CoreFault;
 use std::alloc::Global;
 use std::marker::Model;
 use upi_base::{
-    AccountRef, Call, Done, Entry, Moment, NoMemory, Outcome, Sent, Setup, SetupLine, TxnId,
-    TxnRow, account_named,
+    AccountRef, Call, Done, Entry, Moment, NoMemory, Outcome, Sent, Setup, TxnId, TxnRow,
+    account_named,
 };
 use upi_replay::Replay;
+use vpa_directory::{At, Directory, SetupFault};
 
 /// A switch. Contracts see its setup, which is accepted, and its history, which is legal.
 #[derive(Drop)]
 pub struct Core {
     alloc: Global,
+    directory: Directory,
     replay: Replay,
 }
 
 impl Model for Core {
     ghost use Rattle.upi_model.specs.Chronicle.{Chronicle};
-    ghost use Rattle.switch_core.specs.Calls.{IsSwitch};
+    ghost use Rattle.switch_core.specs.Calls.{IsCore};
 
     ghost Value = { Chronicle };
 
     ghost view = { λ c. c.replay };
 
-    ghost invariant = { λ c. IsSwitch c.replay };
+    ghost invariant = { λ c. IsCore c.directory c.replay };
 }
 
 impl Core {
-    ghost use Rattle.std.specs.Prelude.{◌≡◌, IfOk, OnErr, None, length};
+    ghost use Rattle.std.specs.Prelude.{◌≡◌, IfOk, OnErr, None, [], length};
     ghost use Rattle.std.specs.Option.{option_copied};
     ghost use Rattle.upi_model.specs.History;
     ghost use Rattle.upi_model.specs.DueList;
@@ -43,20 +44,31 @@ impl Core {
     /// A switch over a setup, with no history yet. `alloc` serves what it will keep. It refuses
     /// exactly where a line isn't accepted behind those before it, with the first such line; it
     /// may also find no memory.
-    #[tactic(auto, using(crate::proofs::Refused::new_switch))]
     pub fn new(alloc: Global, setup: Setup) -> Result<Core, At>
         ensures answer { Calls.NewAnswer setup.lines result }
         ensures switch { IfOk result Calls.IsSwitch }
     {
-        if let Some((at, why)) = first_refused(setup.lines.items()) {
-            return Err(At {
-                at,
-                fault: SetupFault::Refused(why),
-            });
+        let directory = Directory::build(alloc, setup)?;
+        match Core::over(alloc, directory) {
+            Ok(core) => Ok(core),
+            Err(_) => Err(At {
+                at: 0,
+                fault: SetupFault::NoMemory,
+            }),
         }
+    }
+
+    /// A switch over the setup of a directory, with no history yet. `alloc` serves what it will
+    /// keep. It fails only for want of memory.
+    pub fn over(alloc: Global, directory: Directory) -> Result<Core, NoMemory>
+        ensures new { IfOk result (λ c. c ≡ record { setup = directory.lines; history = [] }) }
+        ensures switch { IfOk result Calls.IsSwitch }
+    {
+        let lines = directory.setup().lines.copy(alloc)?;
         Ok(Core {
             alloc,
-            replay: Replay::new(alloc, setup.lines),
+            directory,
+            replay: Replay::new(alloc, lines),
         })
     }
 
@@ -119,11 +131,11 @@ impl Core {
         }
     }
 
-    /// The lines of the setup.
-    pub fn lines(&self) -> &[SetupLine]
-        ensures { result.now ≡ self.now.setup }
+    /// The setup, with its tables.
+    pub fn directory(&self) -> &Directory
+        ensures { result.now.lines ≡ self.now.setup }
     {
-        self.replay.lines()
+        &self.directory
     }
 
     /// How many entries there are.

@@ -5,7 +5,7 @@ use std::test::Fail;
 use upi_base::{
     AccountRef, Addr, AuthResp, BankCode, Boxed, Call, Code, Head, Input, Kind, Message, Minutes,
     Moment, MsgId, OrgId, Outcome, Paise, PayReq, Policy, PspName, Reply, Setup, SetupLine,
-    SetupLines, TxnId, Ver, has_psp,
+    SetupLines, TxnId, Ver,
 };
 
 const START: u64 = 1_704_067_200;
@@ -98,7 +98,7 @@ fn approval(alloc: Global) -> Option<Message> {
 // The reply to a message that a PSP sends.
 fn hear(core: &mut Core, psp: &[u8], message: Message, now: Moment) -> Option<Reply> {
     let psp = PspName::read(psp)?;
-    if !has_psp(core.lines(), psp.bytes()) {
+    if !core.directory().has_psp(&psp) {
         return None;
     }
     let input = Input::Good(message);

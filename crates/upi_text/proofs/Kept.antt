@@ -1,40 +1,21 @@
--- A setup with one more line that it takes is a setup.
-use Rattle.std.proofs.Common.{◌≡◌, ℕ, Bool, true, false, List, [], ◌∷◌, ◌++◌, Option, Some, None, Result, Ok, Err, ap, sym, subst, refl, append-nil, append_assoc}
-use Rattle.std.specs.Prelude.{is_none, IfOk}
-use Rattle.std.proofs.lemmas.Bool.{and_parts, and_from}
+-- What a setup that is being read keeps, and what it takes.
+use Rattle.std.proofs.Common.{◌≡◌, Bool, true, [], ◌∷◌, ◌++◌, Option, Some, None, refl, sym, ap, subst, ◌∙◌}
+use Rattle.upi_base.specs.declared.setup.Setup.{Setup}
 use Rattle.upi_base.specs.declared.setup.SetupLine.{SetupLine}
-use Rattle.upi_base.specs.Setup.{accepts_from, setup_fault}
-use Rattle.upi_text.specs.Setup.{IsStarted, IsRead}
-use Rattle.upi_text.specs.declared.refusal.Refusal.{Refusal}
-use Rattle.upi_text.specs.declared.setup.SetupRead.{SetupRead}
-use Rattle.upi_text.specs.declared.setup.SetupRead.TheVariants as read
+use Rattle.upi_base.specs.Setup.{setup_fault, is_setup}
+use Rattle.upi_base.proofs.Setups.{setups_extend}
+use Rattle.upi_text.specs.Setup.{SetupState}
+use Rattle.upi_text.specs.calls.Kept.{state_of, IsKept}
 
-one_more : (before lines : List SetupLine) (l : SetupLine) → accepts_from before lines ≡ true → setup_fault (before ++ lines) l ≡ None → accepts_from before (lines ++ l ∷ []) ≡ true
-one_more before [] l h f =
-    let e : setup_fault before l ≡ None = subst (λ xs. setup_fault xs l ≡ None) (append-nil before) f in
-    and_from (is_none (setup_fault before l)) true (ap is_none e) refl
-one_more before (m ∷ ms) l h f =
-    let p = and_parts _ _ h in
-    and_from _ _ p.0 (one_more (before ++ m ∷ []) ms l p.1 (subst (λ xs. setup_fault xs l ≡ None) (sym (append_assoc before (m ∷ []) ms)) f))
+-- the lines that were read are a setup
+pub kept_lines : (o : Option Setup) (is_open : Bool) → IsKept o is_open → is_setup (state_of o is_open).lines ≡ true
+kept_lines None is_open kept = refl
+kept_lines (Some d) is_open kept = kept
 
--- nothing was read
-pub nothing_read : IsRead None [] false
-nothing_read = record { accepted = refl; started = λ e. absurd (cc) }
-
--- START was read
-pub read_start : (start : Option ℕ) (lines : List SetupLine) (is_open : Bool) (now : ℕ) → IsRead start lines is_open → IsRead (Some now) lines is_open
-read_start start lines is_open now is = record { accepted = is.accepted; started = λ e. refl }
-
--- one more line was read
-pub read_line : (start : Option ℕ) (lines : List SetupLine) (is_open : Bool) (l : SetupLine) → IsRead start lines is_open → setup_fault lines l ≡ None → IsRead start (lines ++ l ∷ []) is_open
-read_line start lines is_open l is f = record { accepted = one_more [] lines l is.accepted f; started = is.started }
-
--- OPEN was read
-pub read_open : (start : Option ℕ) (lines : List SetupLine) (is_open : Bool) → IsRead start lines is_open → IsStarted start read.Open → IsRead start lines true
-read_open None lines is_open is never = absurd never
-read_open (Some start) lines is_open is behind = record { accepted = is.accepted; started = λ e. refl }
-
--- behind START any line may come
-pub behind_start : (start : ℕ) (r : Result SetupRead Refusal) → IfOk r (λ (x : SetupRead). IsStarted (Some start) x)
-behind_start start (Ok r) = tt
-behind_start start (Err e) = tt
+-- and so are they with one more that the setup takes
+pub line_kept : (o : Option Setup) (is_open : Bool) (S : SetupState) (d new : Setup) (l : SetupLine) → IsKept o is_open → o ≡ Some d → state_of o is_open ≡ S → setup_fault S.lines l ≡ None → new ≡ record { start = d.start; lines = d.lines ++ l ∷ [] }
+    → is_setup new.lines ≡ true
+line_kept o is_open S d new l kept some view free same =
+    let lines : S.lines ≡ d.lines = sym (ap (λ (s : SetupState). s.lines) view) ∙ ap (λ (p : Option Setup). (state_of p is_open).lines) some in
+    ap (λ (s : Setup). is_setup s.lines) same
+    ∙ setups_extend d.lines l (subst (λ (p : Option Setup). IsKept p is_open) some kept) (subst (λ ls. setup_fault ls l ≡ None) lines free)

@@ -7,22 +7,12 @@ use Rattle.upi_base.specs.Setup.{setup_fault}
 use Rattle.upi_base.specs.Time.{moment_of}
 use Rattle.upi_text.specs.Words.{is_skipped, words, word_at}
 use Rattle.upi_text.specs.Refusals.{◌>>=◌, not_utf8, no_command, other_fields, valued}
-use Rattle.upi_text.specs.Setup.{SetupState, start_line, open_line, unless_refused, accepted, bank_line, psp_line, account_line, address_line, command_of, commanded, part_line, setup_read}
+use Rattle.upi_text.specs.Setup.{SetupState, start_line, open_line, unless_refused, accepted, bank_line, psp_line, account_line, address_line, command_of, commanded, part_line, setup_read, IsPlaced}
 use Rattle.upi_text.specs.declared.refusal.Refusal.{Refusal}
 use Rattle.upi_text.specs.declared.setup.Command.{Command}
 use Rattle.upi_text.specs.declared.setup.Command.TheVariants as command
 use Rattle.upi_text.specs.declared.setup.SetupRead.{SetupRead}
 use Rattle.upi_text.specs.declared.setup.SetupRead.TheVariants as read
-
--- START stands first, and all others behind it
-abbrev pub IsPlaced : Option ℕ → SetupRead → Type 0
-IsPlaced start read.Skipped = Unit {0}
-IsPlaced None (read.Start s) = Unit {0}
-IsPlaced (Some start) (read.Start s) = ⊥
-IsPlaced None (read.Line l) = ⊥
-IsPlaced (Some start) (read.Line l) = Unit {0}
-IsPlaced None read.Open = ⊥
-IsPlaced (Some start) read.Open = Unit {0}
 
 first : (ws : List Text) (r : SetupRead) → start_line ws ≡ Ok r → IsPlaced None r
 unfolding start_line

@@ -1,5 +1,5 @@
 -- The lines of a setup, read.
-use Rattle.std.specs.Prelude.{◌≡◌, ℕ, ◌==◌, nat_le, Bool, true, false, not, ◌&&◌, if◌then◌else◌, List, [], ◌∷◌, ◌++◌, length, codes, Option, Some, None, is_some, Result, Ok, Err}
+use Rattle.std.specs.Prelude.{◌≡◌, ℕ, ◌==◌, nat_le, Bool, true, false, not, ◌&&◌, if◌then◌else◌, List, [], ◌∷◌, ◌++◌, length, codes, Option, Some, None, Result, Ok, Err}
 use Rattle.std.specs.Str.{bytes_eq, is_utf8}
 use Rattle.upi_base.specs.declared.code.Policy.{Policy}
 use Rattle.upi_base.specs.declared.code.Policy.TheVariants as policy
@@ -11,7 +11,7 @@ use Rattle.upi_base.specs.Lists.{when}
 use Rattle.upi_base.specs.Texts.{is_bank_code, is_psp_name, is_addr}
 use Rattle.upi_base.specs.Money.{paise_of}
 use Rattle.upi_base.specs.Time.{moment_of}
-use Rattle.upi_base.specs.Setup.{setup_fault, is_setup}
+use Rattle.upi_base.specs.Setup.{setup_fault}
 use Rattle.upi_base.specs.Accounts.{account_of}
 use Rattle.upi_text.specs.Words.{is_skipped, words, word_at}
 use Rattle.upi_text.specs.Refusals.{◌>>=◌, refusal, not_utf8, no_command, other_fields, valued}
@@ -159,11 +159,15 @@ MayFollow lines (read.Start start) = Unit {0}
 MayFollow lines (read.Line l) = setup_fault lines l ≡ None
 MayFollow lines read.Open = Unit {0}
 
--- OPEN is read only behind START
-abbrev pub IsStarted : Option ℕ → SetupRead → Type 0
-IsStarted (Some start) r = Unit {0}
-IsStarted None read.Open = ⊥
-IsStarted None _ = Unit {0}
+-- START stands first, and all others behind it
+abbrev pub IsPlaced : Option ℕ → SetupRead → Type 0
+IsPlaced start read.Skipped = Unit {0}
+IsPlaced None (read.Start s) = Unit {0}
+IsPlaced (Some start) (read.Start s) = ⊥
+IsPlaced None (read.Line l) = ⊥
+IsPlaced (Some start) (read.Line l) = Unit {0}
+IsPlaced None read.Open = ⊥
+IsPlaced (Some start) read.Open = Unit {0}
 
 -- nothing was read
 abbrev pub unread : SetupState
@@ -175,8 +179,3 @@ state_after S read.Skipped = S
 state_after S (read.Start start) = record S { start = Some start }
 state_after S (read.Line l) = record S { lines = S.lines ++ l ∷ [] }
 state_after S read.Open = record S { is_open = true }
-
--- what holds of all that was read: the setup accepts its lines, and OPEN stands behind START
-pub record IsRead (start : Option ℕ) (lines : List SetupLine) (is_open : Bool) : Type 0 where
-  pub accepted : is_setup lines ≡ true
-  pub started : is_open ≡ true → is_some start ≡ true

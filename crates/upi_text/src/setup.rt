@@ -4,14 +4,13 @@ ghost use Rattle.std.specs.Str.{is_utf8, bytes_eq};
 ghost use Rattle.upi_base.specs.Lists.{when};
 ghost use Rattle.upi_base.specs.Texts.{is_bank_code, is_psp_name, is_addr};
 ghost use Rattle.upi_text.specs.Words.{words};
-ghost use Rattle.upi_text.specs.Setup.{bank_line, psp_line, flag_of, flags_of, account_line, policy_of, address_line, open_line, start_line, field_of, accepted, command_of, later_line, part_line, MayFollow, IsStarted};
+ghost use Rattle.upi_text.specs.Setup.{bank_line, psp_line, flag_of, flags_of, account_line, policy_of, address_line, open_line, start_line, field_of, accepted, command_of, later_line, MayFollow};
 
 use crate::refusal::Refusal;
 use crate::words::{word, word_count};
 use std::str;
-use upi_base::{
-    AccountRef, Addr, BankCode, Moment, Paise, Policy, PspName, SetupLine, Why, setup_fault,
-};
+use upi_base::{AccountRef, Addr, BankCode, Moment, Paise, Policy, PspName, SetupLine, Why};
+use vpa_directory::Directory;
 
 /// What a line of the setup says.
 #[derive(Clone, Drop, PartialEq, Eq)]
@@ -229,10 +228,9 @@ fn open_line(line: &[u8]) -> Result<SetupRead, Refusal>
 
 // `START ts`
 #[tactic(auto, unfolding(crate::specs::Setup::start_line))]
-fn start_line(line: &[u8]) -> Result<SetupRead, Refusal>
+pub(crate) fn start_line(line: &[u8]) -> Result<SetupRead, Refusal>
     ensures read { result ≡ start_line (words line.now) }
     ensures follows { (lines : List SetupLine) → IfOk result (λ r. MayFollow lines r) }
-    ensures first { IfOk result (λ r. IsStarted None r) }
 {
     if !is(word(line, 0), b"START") {
         return Err(Refusal::no_command());
@@ -258,12 +256,12 @@ fn field(why: Why) -> u32
     }
 }
 
-// The line, if the setup takes it behind those lines.
-fn accepted(lines: &[SetupLine], line: SetupLine) -> Result<SetupRead, Refusal>
-    ensures read { result ≡ accepted lines.now line }
-    ensures follows { IfOk result (λ r. MayFollow lines.now r) }
+// The line, if the setup takes it behind those that it has.
+fn accepted(directory: &Directory, line: SetupLine) -> Result<SetupRead, Refusal>
+    ensures read { result ≡ accepted directory.now.lines line }
+    ensures follows { IfOk result (λ r. MayFollow directory.now.lines r) }
 {
-    match setup_fault(lines, &line) {
+    match directory.refusal(&line) {
         None => Ok(SetupRead::Line(line)),
         Some(why) => Err(Refusal {
             field: field(why),
@@ -292,34 +290,18 @@ fn command_of(word: &[u8]) -> Option<Command>
 }
 
 // A line behind START.
-fn later_line(lines: &[SetupLine], line: &[u8]) -> Result<SetupRead, Refusal>
-    ensures read { result ≡ later_line lines.now (words line.now) }
-    ensures follows { IfOk result (λ r. MayFollow lines.now r) }
+pub(crate) fn later_line(directory: &Directory, line: &[u8]) -> Result<SetupRead, Refusal>
+    ensures read { result ≡ later_line directory.now.lines (words line.now) }
+    ensures follows { IfOk result (λ r. MayFollow directory.now.lines r) }
 {
     let Some(command) = command_of(word(line, 0)) else {
         return Err(Refusal::no_command());
     };
     match command {
-        Command::Bank => accepted(lines, bank_line(line)?),
-        Command::Psp => accepted(lines, psp_line(line)?),
-        Command::Account => accepted(lines, account_line(line)?),
-        Command::Address => accepted(lines, address_line(line)?),
+        Command::Bank => accepted(directory, bank_line(line)?),
+        Command::Psp => accepted(directory, psp_line(line)?),
+        Command::Account => accepted(directory, account_line(line)?),
+        Command::Address => accepted(directory, address_line(line)?),
         Command::Open => open_line(line),
-    }
-}
-
-// A line before or behind START.
-pub(crate) fn part_line(
-    start: Option<Moment>,
-    lines: &[SetupLine],
-    line: &[u8],
-) -> Result<SetupRead, Refusal>
-    ensures read { result ≡ part_line start lines.now (words line.now) }
-    ensures follows { IfOk result (λ r. MayFollow lines.now r) }
-    ensures started { IfOk result (λ r. IsStarted start r) }
-{
-    match start {
-        None => start_line(line),
-        Some(_) => later_line(lines, line),
     }
 }

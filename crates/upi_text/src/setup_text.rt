@@ -4,11 +4,12 @@ ghost use Rattle.upi_text.specs.SetupText.{flags_text, line_text, start_text, se
 
 use crate::pieces::{policy_word, push, push_account, push_sum, push_word};
 use crate::refusal::Refusal;
-use crate::setup::{SetupRead, is_utf8, part_line};
+use crate::setup::{SetupRead, is_utf8, later_line, start_line};
 use crate::words::is_skipped;
 use std::alloc::Global;
 use std::marker::Model;
-use upi_base::{EngineFault, Moment, NoMemory, Setup, SetupLine, SetupLines};
+use upi_base::{EngineFault, Moment, NoMemory, SetupLine};
+use vpa_directory::Directory;
 
 /// What a line of the setup did.
 #[derive(Clone, Copy, Debug, PartialEq, Eq)]
@@ -24,53 +25,38 @@ pub enum SetupStep {
 #[derive(Drop)]
 pub struct SetupText {
     alloc: Global,
-    start: Option<Moment>,
-    lines: SetupLines,
+    // From START on.
+    directory: Option<Directory>,
     is_open: bool,
 }
 
 impl Model for SetupText {
-    ghost use Rattle.upi_text.specs.Setup.{SetupState, IsRead};
+    ghost use Rattle.upi_text.specs.Setup.{SetupState};
+    ghost use Rattle.upi_text.specs.calls.Kept.{state_of, IsKept};
 
     ghost Value = { SetupState };
 
-    ghost view = { λ s. record { start = s.start; lines = s.lines; is_open = s.is_open } };
+    ghost view = { λ s. state_of s.directory s.is_open };
 
-    ghost invariant = { λ s. IsRead s.start s.lines s.is_open };
+    ghost invariant = { λ s. IsKept s.directory s.is_open };
 }
 
 impl SetupText {
     ghost use Rattle.std.specs.Prelude.{◌≡◌, ◌++◌, Some, IfOk, OnOk, OnErr, true, false};
     ghost use Rattle.upi_base.specs.Setup.{is_setup};
-    ghost use Rattle.upi_text.specs.Setup.{unread, setup_read, state_after, MayFollow, IsStarted};
+    ghost use Rattle.upi_text.specs.Setup.{unread, setup_read, state_after, MayFollow, IsPlaced};
     ghost use Rattle.upi_text.specs.SetupText.{setup_text_of, SetupAnswer};
+    ghost use Rattle.upi_text.specs.declared.setup.SetupRead.TheVariants as read;
 
     /// No lines yet. `alloc` serves the lines that are kept.
-    #[tactic(auto, using(crate::proofs::Kept::nothing_read))]
     pub fn new(alloc: Global) -> SetupText
         ensures { result ≡ unread }
     {
         SetupText {
             alloc,
-            start: None,
-            lines: SetupLines::new(alloc),
+            directory: None,
             is_open: false,
         }
-    }
-
-    /// The moment of START, if it was read.
-    pub fn start(&self) -> Option<Moment>
-        ensures { result ≡ self.now.start }
-    {
-        self.start
-    }
-
-    /// The lines behind START, in order.
-    pub fn lines(&self) -> &[SetupLine]
-        ensures lines { result.now ≡ self.now.lines }
-        ensures accepted { is_setup self.now.lines ≡ true }
-    {
-        self.lines.items()
     }
 
     /// Whether OPEN was read.
@@ -80,55 +66,67 @@ impl SetupText {
         self.is_open
     }
 
-    /// The setup that was read. Condition: OPEN was read.
-    pub fn into_setup(self) -> Setup
+    /// The setup that was read, with its tables. Condition: OPEN was read. It takes no memory.
+    pub fn into_directory(self) -> Directory
         requires { self.is_open ≡ true }
         ensures read { self ≡ record { start = Some result.start; lines = result.lines; is_open = true } }
         ensures accepted { is_setup result.lines ≡ true }
     {
-        Setup {
-            start: self.start.unwrap(),
-            lines: self.lines,
-        }
+        self.directory.unwrap()
     }
 
     // What a line says behind those that were taken, or the first reason for which it is refused.
+    #[tactic(auto, using(crate::proofs::Kept::kept_lines))]
     fn read(&self, line: &[u8]) -> Result<SetupRead, Refusal>
         ensures read { result ≡ setup_read self.now line.now }
         ensures follows { IfOk result (λ r. MayFollow self.now.lines r) }
-        ensures started { IfOk result (λ r. IsStarted self.now.start r) }
         ensures accepted { is_setup self.now.lines ≡ true }
     {
-        let start = self.start;
+        let _is_open = self.is_open;
         if is_skipped(line) {
             return Ok(SetupRead::Skipped);
         }
         if !is_utf8(line) {
             return Err(Refusal::not_utf8());
         }
-        part_line(start, self.lines.items(), line)
+        match &self.directory {
+            None => start_line(line),
+            Some(directory) => later_line(directory, line),
+        }
+    }
+
+    // Keeps a line that is accepted. Condition: START was read.
+    fn keep(&mut self, line: SetupLine) -> Result<(), NoMemory>
+        requires follows { MayFollow self.old.lines (read.Line line) }
+        requires placed { IsPlaced self.old.start (read.Line line) }
+        ensures ok { OnOk result (self.new ≡ state_after self.old (read.Line line)) }
+        ensures err { OnErr result (self.new ≡ self.old) }
+        ensures accepted { is_setup self.new.lines ≡ true }
+    {
+        let Some(directory) = &mut self.directory else {
+            unreachable!();
+        };
+        directory.push(line)?;
+        Ok(())
     }
 
     // Keeps what a line says.
-    #[tactic(auto, using(crate::proofs::Kept::read_start, crate::proofs::Kept::read_open))]
+    #[tactic(auto, using(crate::proofs::Kept::kept_lines))]
     fn note(&mut self, read: SetupRead) -> Result<(), NoMemory>
         requires follows { MayFollow self.old.lines read }
-        requires started { IsStarted self.old.start read }
+        requires placed { IsPlaced self.old.start read }
         ensures ok { OnOk result (self.new ≡ state_after self.old read) }
         ensures err { OnErr result (self.new ≡ self.old) }
         ensures accepted { is_setup self.new.lines ≡ true }
     {
-        let _start = self.start;
+        let _is_open = self.is_open;
         match read {
             SetupRead::Skipped => Ok(()),
             SetupRead::Start(start) => {
-                self.start = Some(start);
+                self.directory = Some(Directory::new(self.alloc, start));
                 Ok(())
             }
-            SetupRead::Line(line) => {
-                self.lines.push(line)?;
-                Ok(())
-            }
+            SetupRead::Line(line) => self.keep(line),
             SetupRead::Open => {
                 self.is_open = true;
                 Ok(())
@@ -139,7 +137,7 @@ impl SetupText {
     // Keeps what a line says, and appends its one form. At want of memory nothing changes.
     fn take(&mut self, read: SetupRead, out: &mut Vec<u8>) -> Result<(), NoMemory>
         requires follows { MayFollow self.old.lines read }
-        requires started { IsStarted self.old.start read }
+        requires placed { IsPlaced self.old.start read }
         ensures ok { OnOk result ((self.new ≡ state_after self.old read) × (out.new.items ≡ out.old.items ++ setup_text_of read)) }
         ensures err { OnErr result ((self.new ≡ self.old) × (out.new.items ≡ out.old.items)) }
         ensures accepted { is_setup self.new.lines ≡ true }

@@ -28,6 +28,37 @@ fn read_all(alloc: Global, lines: &[u8]) -> Result<(SetupText, Vec<u8>), Fail> {
     Ok((setup, out))
 }
 
+// A line, and why it is refused, at which word.
+type Refused = (&'static [u8], u32, Why);
+
+// The first of these lines that isn't refused so, or that writes something.
+fn not_refused(setup: &mut SetupText, out: &mut Vec<u8>, rows: &[Refused]) -> Option<usize> {
+    let written = out.len();
+    for (place, &(line, field, why)) in rows.iter().enumerate() {
+        let answer = take(setup, line, out);
+        if answer != Err(EngineFault::Bad { field, why }) || out.len() != written {
+            return Some(place);
+        }
+    }
+    None
+}
+
+// The same, behind lines that are taken.
+fn not_refused_behind(
+    alloc: Global,
+    before: &[u8],
+    rows: &[Refused],
+) -> Result<Option<usize>, Fail> {
+    let (mut setup, mut out) = read_all(alloc, before)?;
+    Ok(not_refused(&mut setup, &mut out, rows))
+}
+
+// What is written for lines.
+fn written(alloc: Global, lines: &[u8]) -> Result<Vec<u8>, Fail> {
+    let (_setup, out) = read_all(alloc, lines)?;
+    Ok(out)
+}
+
 #[test]
 fn lines_are_cut_at_single_spaces(rt: HostRuntime) {
     assert_eq!(rt; word_count(b""), 1);
@@ -90,47 +121,73 @@ fn the_first_reason_refuses(rt: HostRuntime) -> Result<(), Fail> {
         (b"ADDR bob@alpha BBBB/1 YES".as_slice(), 3, Why::NoAccount),
         (b"OPEN now".as_slice(), 0, Why::Fields),
     ];
-    let (mut setup, mut out) = read_all(rt.alloc(), SETUP)?;
-    let written = out.len();
-    for (line, field, why) in rows {
-        let answer = take(&mut setup, line, &mut out);
-        assert!(rt; answer == Err(EngineFault::Bad { field, why }), "{field}");
-        assert_eq!(rt; out.len(), written);
-    }
-    assert_eq!(rt; take(&mut setup, b"OPEN", &mut out)?, SetupStep::Opened);
+    assert_eq!(rt; not_refused_behind(rt.alloc(), SETUP, &rows)?, None);
     Ok(())
 }
 
 #[test]
 fn start_stands_first(rt: HostRuntime) -> Result<(), Fail> {
-    let (mut setup, mut out) = read_all(rt.alloc(), b"\n#\xff\n# BANK")?;
-    assert!(rt; out.is_empty());
+    let skipped = b"\n#\xff\n# BANK".as_slice();
+    assert!(rt; written(rt.alloc(), skipped)?.is_empty());
     let rows = [
         (b"BANK AAAA".as_slice(), 1, Why::Word),
         (b"START".as_slice(), 0, Why::Fields),
         (b"START 2024-02-30T00:00:00Z".as_slice(), 2, Why::Value),
         (b"\xff".as_slice(), 0, Why::Utf8),
     ];
-    for (line, field, why) in rows {
-        let answer = take(&mut setup, line, &mut out);
-        assert!(rt; answer == Err(EngineFault::Bad { field, why }), "{field}");
-    }
+    assert_eq!(rt; not_refused_behind(rt.alloc(), skipped, &rows)?, None);
     Ok(())
 }
 
 #[test]
 fn a_setup_is_written_in_its_one_form(rt: HostRuntime) -> Result<(), Fail> {
-    let (setup, out) = read_all(
-        rt.alloc(),
-        b"START 2024-01-01T00:00:00.5Z\n\nBANK AAAA\n#\nPSP alpha\nACCOUNT AAAA/1 7.5 NODEBIT\nACCOUNT AAAA/2 007\nACCOUNT AAAA/3 0.1 NOCREDIT\nACCOUNT AAAA/4 1 NODEBIT NOCREDIT\nADDR ann@alpha AAAA/1 YES\nADDR bob@alpha AAAA/1 NO\nADDR eve@alpha AAAA/2 ASK\nOPEN",
-    )?;
+    let lines =
+        b"START 2024-01-01T00:00:00.5Z\n\nBANK AAAA\n#\nPSP alpha\nACCOUNT AAAA/1 7.5 NODEBIT\nACCOUNT AAAA/2 007\nACCOUNT AAAA/3 0.1 NOCREDIT\nACCOUNT AAAA/4 1 NODEBIT NOCREDIT\nADDR ann@alpha AAAA/1 YES\nADDR bob@alpha AAAA/1 NO\nADDR eve@alpha AAAA/2 ASK\nOPEN";
     assert_eq!(rt;
-        out.as_slice(),
+        written(rt.alloc(), lines)?.as_slice(),
         b"START 2024-01-01T05:30:00+05:30\nBANK AAAA\nPSP alpha\nACCOUNT AAAA/1 7.50 NODEBIT\nACCOUNT AAAA/2 7.00\nACCOUNT AAAA/3 0.10 NOCREDIT\nACCOUNT AAAA/4 1.00 NODEBIT NOCREDIT\nADDR ann@alpha AAAA/1 YES\nADDR bob@alpha AAAA/1 NO\nADDR eve@alpha AAAA/2 ASK\nOPEN\n".as_slice()
     );
-    assert_eq!(rt; setup.lines().len(), 9);
-    let start = setup.start().ok_or(NoMemory)?;
-    assert_eq!(rt; start.get(), 1_704_067_200);
+    assert!(rt; kept(rt.alloc(), lines)? == Some((9, 1_704_067_200)));
+    Ok(())
+}
+
+// How many lines a setup has that is read to its end, and when it starts.
+fn kept(alloc: Global, lines: &[u8]) -> Result<Option<(usize, u64)>, Fail> {
+    let (text, _out) = read_all(alloc, lines)?;
+    if !text.is_open() {
+        return Ok(None);
+    }
+    let setup = text.into_directory().into_setup();
+    Ok(Some((setup.lines.items().len(), setup.start.get())))
+}
+
+// Whether so many accounts are taken, one line for each.
+fn takes_accounts(alloc: Global, setup: &mut SetupText, count: u32) -> Result<bool, Fail> {
+    let mut out = Vec::new(alloc);
+    for number in 0..count {
+        let line = format!(in alloc; "ACCOUNT AAAA/n{number} 1")?;
+        out.clear();
+        if take(setup, line.as_bytes(), &mut out)? != SetupStep::More {
+            return Ok(false);
+        }
+    }
+    Ok(true)
+}
+
+// Whether so many accounts are taken, and these lines then refused so.
+fn fills(alloc: Global, count: u32, rows: &[Refused]) -> Result<bool, Fail> {
+    let (mut setup, mut out) = read_all(alloc, b"START 2024-01-01T00:00:00Z\nBANK AAAA")?;
+    let taken = takes_accounts(alloc, &mut setup, count)?;
+    Ok(taken && not_refused(&mut setup, &mut out, rows) == None)
+}
+
+#[test]
+fn so_many_accounts_are_taken(rt: HostRuntime) -> Result<(), Fail> {
+    let rows = [
+        (b"ACCOUNT AAAA/more 1".as_slice(), 1, Why::Limit),
+        (b"ACCOUNT AAAA/n0 1".as_slice(), 2, Why::Twice),
+    ];
+    assert!(rt; fills(rt.alloc(), 65_536, &rows)?);
     Ok(())
 }
 

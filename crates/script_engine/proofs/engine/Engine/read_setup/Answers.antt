@@ -34,10 +34,10 @@ returns-in_ok-player-in-Opened-clause-line c =
     let closed : (play_of S c.self.inside.player).setup.is_open ≡ false = subst (λ (e : EngineState). e.play.setup.is_open ≡ false) (sym c.self.view_is) c.requires in
     let early = unopened S c.self.inside.player c.self.invariant closed in
     let answer : SetupAnswer S line before after new (Ok SetupStep.Opened) = subst (λ (s : SetupStep). SetupAnswer S line before after new (Ok s)) c.in-Opened.is c.in_ok-line.ensures.answer in
-    let made = sym c.replace-text.ensures.value ∙ c.into_setup.ensures.read in
+    let made = sym c.replace-text.ensures.value ∙ c.into_directory.ensures.read in
     let opened : PlayAnswer (play_line (play_of S None) line) (play_of S None) before after player (Ok tt) =
     subst (λ (p : Play). PlayAnswer (play_line (play_of S None) line) (play_of S None) before after p (Ok tt)) (sym c.in_ok-player-in-Opened.ensures.play)
-    (switch_opened S new c.into_setup.result line before after early.1 answer made) in
+    (switch_opened S new c.into_directory.result line before after early.1 answer made) in
     let here : PlayAnswer (play_line (play_of S c.self.inside.player) line) (play_of S c.self.inside.player) before after player (Ok tt) =
     subst (λ (o : Option Play). PlayAnswer (play_line (play_of S o) line) (play_of S o) before after player (Ok tt)) (sym early.0) opened in
     subst (λ (e : EngineState). PlayAnswer (play_line e.play line) e.play before after player (Ok tt)) c.self.view_is here

@@ -1,23 +1,25 @@
-use Rattle.std.proofs.Common.{◌≡◌, ◌+◌, refl, arith, sym, subst}
+use Rattle.std.proofs.Common.{◌≡◌, ◌+◌, refl, arith, sym, ap, subst}
 use Rattle.upi_io.specs.Lines.{ReaderState, ahead}
 use Rattle.script_engine.specs.Play.{Play, blank}
+use Rattle.script_engine.specs.Engine.{EngineState}
+use Rattle.switch_cli.specs.Run.{IsTrusted}
 use Rattle.switch_cli.specs.calls.Steps.{Going}
-use Rattle.switch_cli.proofs.Trust.{trusted}
+use Rattle.switch_cli.proofs.Trust.{blank_is_trusted}
 use Rattle.switch_cli.proofs.Runs.{begins, run_stops, run_finishes, run_goes_on}
-use Rattle.switch_cli.proofs.script.run_script.Goals as goal
+use Rattle.switch_cli.proofs.script.play_lines.Goals as goal
 
 pub lines-init : goal.lines-init
 lines-init g c =
     let source = g.S.Source.left c.args.source.now in
     let sink = g.K.Sink.taken c.args.sink.now in
     let none = subst (λ (r : ReaderState). Going source (ahead r source) blank 0 sink sink) (sym c.new-reader.ensures) (begins source sink) in
-    let blank_play : c.new-engine.result.play ≡ blank = cc in
+    let blank_play : c.args.engine.now.play ≡ blank = ap (λ (e : EngineState). e.play) c.requires in
     record {
       fresh = cc;
       count = cc;
       most = omega arith;
       going = subst (λ (p : Play). Going source (ahead c.new-reader.result source) p 0 sink sink) (sym blank_play) none;
-      trusted = trusted c.new-engine.result c.new-engine.ensures.holds;
+      trusted = subst IsTrusted (sym blank_play) blank_is_trusted;
       read = omega arith;
       write = omega arith;
       sure = λ e. e;

@@ -3,7 +3,7 @@ use Rattle.upi_io.specs.Lines.{ahead}
 use Rattle.upi_io.specs.declared.lines.TheConstants.{MAX_LINES}
 use Rattle.switch_cli.specs.Run.{IsTrusted}
 use Rattle.switch_cli.specs.calls.Steps.{Going}
-use Rattle.switch_cli.proofs.script.run_script.Given as goal
+use Rattle.switch_cli.proofs.script.play_lines.Given as goal
 
 abbrev pub invariant-lines : goal.invariant-lines
 invariant-lines g l = record {

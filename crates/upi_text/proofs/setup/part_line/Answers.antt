@@ -1,4 +1,0 @@
-use Rattle.upi_text.proofs.setup.part_line.Goals as goal
-
-pub returns-in-None-clause-follows : goal.returns-in-None-clause-follows
-returns-in-None-clause-follows c = c.start_line.ensures.follows c.args.lines.now

@@ -1,0 +1,2 @@
+-- What private functions keep.
+pub mod Kept
