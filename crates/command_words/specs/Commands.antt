@@ -1,5 +1,5 @@
 -- The words of a command line, and the command that they ask for.
-use Rattle.std.specs.Prelude.{ℕ, nat_le, ◌&&◌, if◌then◌else◌, List, [], ◌∷◌, length, codes, Option, Some, None}
+use Rattle.std.specs.Prelude.{ℕ, ◌≤◌, nat_le, ◌&&◌, if◌then◌else◌, List, [], ◌∷◌, length, codes, Option, Some, None}
 use Rattle.std.specs.Option.{option_and_then, option_map}
 use Rattle.std.specs.Str.{bytes_eq}
 use Rattle.upi_base.specs.Lists.{when}
@@ -38,3 +38,14 @@ abbrev pub command_of : List (List ℕ) → Option Command
 command_of (name ∷ []) = bare name
 command_of (name ∷ count ∷ seed ∷ []) = sized name count seed
 command_of _ = None
+
+-- a load of at most 50,000 payments, from a seed of at most 2,147,483,647
+abbrev pub IsSize : LoadSize → Type 0
+IsSize size = (size.count ≤ MAX_COUNT) × (size.seed ≤ MAX_SEED)
+
+-- the load of a command, if it has one, is within these bounds
+abbrev pub IsSized : Command → Type 0
+IsSized Command.Script = Unit {0}
+IsSized Command.Audit = Unit {0}
+IsSized (Command.Generate size) = IsSize size
+IsSized (Command.Load size) = IsSize size

@@ -33,7 +33,8 @@ pub enum Command {
 
 /// The number in these bounds that a word of 1 to 10 digits spells; `None` for any other word.
 fn value(word: &String, least: u32, most: u32) -> Option<u32>
-    ensures { result ≡ Commands.value least most (string_bytes word.now) }
+    ensures value { result ≡ Commands.value least most (string_bytes word.now) }
+    ensures within { IfSome result (λ n. n ≤ most) }
 {
     let digits = word.as_bytes();
     if digits.len() > MAX_DIGITS {
@@ -48,7 +49,8 @@ fn value(word: &String, least: u32, most: u32) -> Option<u32>
 
 /// The load of these two words.
 fn load_size(count: &String, seed: &String) -> Option<LoadSize>
-    ensures { result ≡ Commands.load_size (string_bytes count.now) (string_bytes seed.now) }
+    ensures size { result ≡ Commands.load_size (string_bytes count.now) (string_bytes seed.now) }
+    ensures fits { IfSome result Commands.IsSize }
 {
     Some(LoadSize {
         count: value(count, 1, MAX_COUNT)?,
@@ -58,7 +60,8 @@ fn load_size(count: &String, seed: &String) -> Option<LoadSize>
 
 /// The command with these two values behind its name.
 fn sized(name: &String, count: &String, seed: &String) -> Option<Command>
-    ensures { result ≡ Commands.sized (string_bytes name.now) (string_bytes count.now) (string_bytes seed.now) }
+    ensures command { result ≡ Commands.sized (string_bytes name.now) (string_bytes count.now) (string_bytes seed.now) }
+    ensures fits { IfSome result Commands.IsSized }
 {
     let size = load_size(count, seed)?;
     match name.as_str() {
@@ -70,7 +73,8 @@ fn sized(name: &String, count: &String, seed: &String) -> Option<Command>
 
 /// The command that is one word.
 fn bare(name: &String) -> Option<Command>
-    ensures { result ≡ Commands.bare (string_bytes name.now) }
+    ensures command { result ≡ Commands.bare (string_bytes name.now) }
+    ensures fits { IfSome result Commands.IsSized }
 {
     match name.as_str() {
         "script" => Some(Command::Script),
@@ -84,6 +88,7 @@ fn bare(name: &String) -> Option<Command>
 /// zeros may stand; COUNT is 1 to 50,000, and SEED at most 2,147,483,647.
 pub fn command_of(words: &Words) -> Option<Command>
     ensures command { result ≡ Commands.command_of words.now }
+    ensures fits { IfSome result Commands.IsSized }
 {
     match words.as_slice() {
         [name] => bare(name),

@@ -27,6 +27,10 @@ abbrev pub setup_text : ℕ → Text
 setup_text zero = []
 setup_text (suc k) = setup_text k ++ ended (setup_line k)
 
+-- the text of the whole setup
+unfoldable pub whole_setup : Text
+whole_setup = setup_text setup_len
+
 -- the text of the first payments
 abbrev pub sends_text : ℕ → ℕ → Text
 sends_text seed zero = []
@@ -34,4 +38,4 @@ sends_text seed (suc n) = sends_text seed n ++ ended (next_send seed n)
 
 -- the setup, and so many payments
 abbrev pub generated : ℕ → ℕ → Text
-generated count seed = setup_text setup_len ++ sends_text seed count
+generated count seed = whole_setup ++ sends_text seed count

@@ -8,7 +8,7 @@ pub mod text;
 pub mod users;
 
 pub use sends::Sends;
-pub use text::{MAX_COUNT, MAX_SEED, SETUP_LINES, generate};
+pub use text::{MAX_COUNT, MAX_SEED, SETUP_LINES, generate, push_setup};
 pub use users::push_setup_line;
 
 #[cfg(test)]

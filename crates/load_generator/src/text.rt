@@ -1,7 +1,6 @@
 //! The text of a load.
 ghost use Rattle.std.specs.Prelude.{◌≡◌, ◌≤◌, ◌++◌, OnOk, OnErr};
 ghost use Rattle.load_generator.specs.Loads;
-ghost use Rattle.load_generator.specs.Users.{setup_len};
 ghost use Rattle.load_generator.specs.declared.text.TheConstants.{MAX_COUNT, MAX_SEED};
 
 use crate::sends::Sends;
@@ -18,9 +17,11 @@ pub const MAX_SEED: u32 = 2_147_483_647;
 /// How many lines the setup has.
 pub const SETUP_LINES: u32 = 90;
 
-/// Appends the setup.
-fn push_setup(out: &mut Vec<u8>) -> Result<(), NoMemory>
-    ensures { OnOk result (out.new.items ≡ out.old.items ++ Loads.setup_text setup_len) }
+/// Appends the lines of the setup, each with its line end. It fails only for want of memory; then a
+/// part may be appended.
+#[tactic(auto, unfolding(crate::specs::Loads::whole_setup))]
+pub fn push_setup(out: &mut Vec<u8>) -> Result<(), NoMemory>
+    ensures { OnOk result (out.new.items ≡ out.old.items ++ Loads.whole_setup) }
 {
     'lines: for k in 0..SETUP_LINES {
         push_setup_line(k, out)?;

@@ -5,3 +5,4 @@ pub mod Plays
 pub mod Runs
 pub mod Trust
 pub mod Wholes
+pub mod Does

@@ -1,5 +1,6 @@
 ghost use Rattle.std.specs.Prelude.{◌<◌};
 
+mod commands;
 mod reasons;
 mod rows;
 
@@ -87,10 +88,17 @@ struct Ending {
     failed: u64,
 }
 
-// A run over memory.
+// A run of a script over memory.
 fn ran(alloc: Global, input: &[u8], cut: Cut) -> Result<Ending, Fail> {
+    ran_by(alloc, "script", input, cut)
+}
+
+// A run of a command, whose words single spaces part, over memory.
+fn ran_by(alloc: Global, words: &str, input: &[u8], cut: Cut) -> Result<Ending, Fail> {
     let mut list = Vec::new(alloc);
-    list.push(String::from_str(alloc, "script")?)?;
+    for word in words.split(' ') {
+        list.push(String::from_str(alloc, word)?)?;
+    }
     let bad_reads = Vec::from_slice(alloc, &[cut.bad_read])?;
     let bad_writes = Vec::from_slice(alloc, &[cut.bad_write])?;
     let piece = cut.piece.max(1);
