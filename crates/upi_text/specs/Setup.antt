@@ -44,6 +44,7 @@ psp_line ws =
     Ok (line.Psp name))
     else Err other_fields
 
+-- which postings an account doesn't take
 abbrev pub flags : Bool → Bool → Flags
 flags no_debit no_credit = record { no_debit = no_debit; no_credit = no_credit }
 
@@ -73,6 +74,7 @@ account_line ws =
     Ok (line.Account ac opening f.no_debit f.no_credit))
     else Err other_fields
 
+-- `YES`, `NO` or `ASK`
 unfoldable pub policy_of : List ℕ → Option Policy
 policy_of word =
     if bytes_eq word (codes "YES") then Some policy.Yes
@@ -112,6 +114,7 @@ field_of why.NoAccount = 3
 field_of why.Limit = 1
 field_of _ = 0
 
+-- the line, unless it is refused for a reason, which stands at its word
 abbrev pub unless_refused : SetupLine → Option Why → Result SetupRead Refusal
 unless_refused l None = Ok (read.Line l)
 unless_refused l (Some w) = Err (refusal (field_of w) w)
@@ -120,6 +123,7 @@ unless_refused l (Some w) = Err (refusal (field_of w) w)
 abbrev pub accepted : List SetupLine → SetupLine → Result SetupRead Refusal
 accepted lines l = unless_refused l (setup_fault lines l)
 
+-- what the first word of a line behind START names
 unfoldable pub command_of : List ℕ → Option Command
 command_of word =
     if bytes_eq word (codes "BANK") then Some command.Bank
@@ -129,6 +133,7 @@ command_of word =
     else if bytes_eq word (codes "OPEN") then Some command.Open
     else None
 
+-- what a line behind START says, by its first word
 abbrev pub commanded : List SetupLine → List (List ℕ) → Option Command → Result SetupRead Refusal
 commanded lines ws None = Err no_command
 commanded lines ws (Some command.Bank) = bank_line ws >>= accepted lines
@@ -141,6 +146,7 @@ commanded lines ws (Some command.Open) = open_line ws
 abbrev pub later_line : List SetupLine → List (List ℕ) → Result SetupRead Refusal
 later_line lines ws = commanded lines ws (command_of (word_at 0 ws))
 
+-- a line before START, which has to be START itself, or one behind it
 abbrev pub part_line : Option ℕ → List SetupLine → List (List ℕ) → Result SetupRead Refusal
 part_line None lines ws = start_line ws
 part_line (Some start) lines ws = later_line lines ws
