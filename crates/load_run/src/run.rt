@@ -2,6 +2,7 @@
 ghost use Rattle.std.specs.Prelude.{◌≡◌, ◌≤◌, ◌<◌, ◌+◌, ℕ, List, [], ◌∷◌, OnOk};
 ghost use Rattle.load_generator.specs.Users.{setup_len};
 ghost use Rattle.load_generator.specs.declared.text.TheConstants.{MAX_COUNT, MAX_SEED};
+ghost use Rattle.script_engine.specs.Engine.{fresh};
 ghost use Rattle.load_run.specs.LoadLines;
 ghost use Rattle.load_run.specs.Runs;
 ghost use Rattle.load_run.specs.Summaries.{LoadAnswer};
@@ -138,6 +139,21 @@ impl Runner {
         self.take_turns()?;
         self.play(b"CLOSE")
     }
+
+    // Plays all lines of a load, and sums them up.
+    fn play_all(&mut self, count: u32, seed: u32, line: &mut Vec<u8>) -> Result<Summary, LoadFault>
+        requires first { self.old.played ≡ 0 }
+        requires blank { self.old.engine ≡ fresh }
+        requires count { count ≤ MAX_COUNT }
+        requires seed { seed ≤ MAX_SEED }
+        ensures answer { LoadAnswer count seed result }
+    {
+        self.play_setup(line)?;
+        self.play_payments(count, seed, line)?;
+        self.close()?;
+        let summary = self.engine.summary()?;
+        Ok(summary)
+    }
 }
 
 /// Plays the lines of a load as a script's, and sums up the history that they make. The network takes
@@ -157,9 +173,5 @@ pub fn run_load(alloc: Global, count: u32, seed: u32) -> Result<Summary, LoadFau
         played: 0,
         text: Vec::new(alloc),
     };
-    runner.play_setup(&mut line)?;
-    runner.play_payments(count, seed, &mut line)?;
-    runner.close()?;
-    let summary = runner.engine.summary()?;
-    Ok(summary)
+    runner.play_all(count, seed, &mut line)
 }

@@ -31,7 +31,8 @@ fn run_words<S: Source, K: Sink>(
         Some(Command::Script) => run_script(alloc, source, sink),
         Some(Command::Generate(size)) => write_load(alloc, size.count, size.seed, sink),
         Some(Command::Load(size)) => write_summary_of_load(alloc, size.count, size.seed, sink),
-        _ => Status::Usage,
+        Some(Command::Audit) => Status::Usage,
+        None => Status::Usage,
     }
 }
 
