@@ -31,18 +31,16 @@ pub record IsSummary (count seed : ℕ) (line : Text) : Type 0 where
   pub plays : play (load_lines count seed) ≡ Ok played
   pub sums : line ≡ summary_text count seed (summary_of played.play.setup.lines played.play.history)
 
--- the line that sums up a load is written
-pub record WritesLine (count seed : ℕ) (before after : Option Text) (s : Status) : Type 0 where
-  pub line : Text
-  pub sums : IsSummary count seed line
-  pub writes : WritesText line before after s
+-- the line that sums up a load is written, whole, or a front of it where the sink failed
+abbrev pub TellsSummary : ℕ → ℕ → Option Text → Option Text → Status → Type 0
+TellsSummary count seed before after s = (line : Text) × IsSummary count seed line × WritesText line before after s
 
 -- The line that sums up a load is written; or a script refuses a line of the load, and nothing is. Nothing is, too, where there was no memory.
 abbrev pub SumsUp : ℕ → ℕ → Option Text → Option Text → Status → Type 0
-SumsUp count seed before after Status.Done = WritesLine count seed before after Status.Done
+SumsUp count seed before after Status.Done = TellsSummary count seed before after Status.Done
 SumsUp count seed before after Status.Usage = ⊥
 SumsUp count seed before after (Status.BadLine line field w) = IsRefused (load_lines count seed) line field w × (after ≡ before)
 SumsUp count seed before after (Status.TooLong line) = ⊥
 SumsUp count seed before after Status.ReadFault = ⊥
-SumsUp count seed before after Status.WriteFault = WritesLine count seed before after Status.WriteFault
+SumsUp count seed before after Status.WriteFault = TellsSummary count seed before after Status.WriteFault
 SumsUp count seed before after Status.NoMemory = after ≡ before

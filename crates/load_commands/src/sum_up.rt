@@ -1,34 +1,37 @@
 //! A load, run, and the line that sums it up.
-ghost use Rattle.std.specs.Prelude.{◌≡◌, ◌≤◌};
+ghost use Rattle.std.specs.Prelude.{◌≡◌, ◌≤◌, IfOk, IfErr};
 ghost use Rattle.upi_io.specs.Faults.{Rose};
 ghost use Rattle.load_generator.specs.declared.text.TheConstants.{MAX_COUNT, MAX_SEED};
-ghost use Rattle.load_run.specs.Summaries.{summary_text};
-ghost use Rattle.load_commands.specs.Writing.{SumsUp, WritesText};
+ghost use Rattle.load_commands.specs.Writing.{IsSummary, SumsUp};
+ghost use Rattle.load_commands.specs.calls.Lines.{WritesLine};
+ghost use Rattle.load_run.specs.LoadLines.{load_lines};
+ghost use Rattle.load_run.specs.Runs.{Stops};
 
 use load_generator::{MAX_COUNT, MAX_SEED};
 use load_run::{LoadFault, run_load, write_summary};
 use std::alloc::Global;
-use upi_base::Summary;
 use upi_io::{Sink, Status, write_all};
 
-/// Writes the line that sums up a load.
-fn write_line<K: Sink>(
-    alloc: Global,
-    count: u32,
-    seed: u32,
-    summary: &Summary,
-    sink: &mut K,
-) -> Status
-    ensures text { WritesText (summary_text count seed summary.now) (K.taken sink.old) (K.taken sink.new) result }
-    ensures nothing { result ≡ Status.NoMemory → K.taken sink.new ≡ K.taken sink.old }
+/// The line that sums up a load, which is run for it.
+fn summary_line(alloc: Global, count: u32, seed: u32) -> Result<Vec<u8>, LoadFault>
+    requires count { count ≤ MAX_COUNT }
+    requires seed { seed ≤ MAX_SEED }
+    ensures line { IfOk result (λ text. IsSummary count seed text.items) }
+    ensures stops { IfErr result (Stops (load_lines count seed)) }
+{
+    let summary = run_load(alloc, count, seed)?;
+    let mut text = Vec::new(alloc);
+    write_summary(count, seed, &summary, &mut text)?;
+    Ok(text)
+}
+
+/// Writes a line.
+fn write_line<K: Sink>(text: &[u8], sink: &mut K) -> Status
+    ensures text { WritesLine text.now (K.taken sink.old) (K.taken sink.new) result }
     ensures write { result ≡ Status.WriteFault → Rose (K.faults sink.old) (K.faults sink.new) }
     ensures writes { K.faults sink.old ≤ K.faults sink.new }
 {
-    let mut text = Vec::new(alloc);
-    if write_summary(count, seed, summary, &mut text).is_err() {
-        return Status::NoMemory;
-    }
-    match write_all(sink, &text) {
+    match write_all(sink, text) {
         Ok(()) => Status::Done,
         Err(_) => Status::WriteFault,
     }
@@ -48,8 +51,8 @@ pub fn write_summary_of_load<K: Sink>(alloc: Global, count: u32, seed: u32, sink
     ensures write { result ≡ Status.WriteFault → Rose (K.faults sink.old) (K.faults sink.new) }
     ensures writes { K.faults sink.old ≤ K.faults sink.new }
 {
-    match run_load(alloc, count, seed) {
-        Ok(summary) => write_line(alloc, count, seed, &summary, sink),
+    match summary_line(alloc, count, seed) {
+        Ok(text) => write_line(&text, sink),
         Err(LoadFault::Refused { line, field, why }) => Status::BadLine { line, field, why },
         Err(LoadFault::NoMemory) => Status::NoMemory,
     }
