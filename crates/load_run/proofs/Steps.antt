@@ -17,6 +17,14 @@ use Rattle.load_run.proofs.Plays.{one_more}
 pub begins : (lines : List Text) → Going lines lines blank 0
 begins lines = record { done = []; written = []; split = refl; counted = refl; plays = refl }
 
+-- an engine that has read nothing stands before all lines of a load
+pub load_begins : (count seed : ℕ) (e : EngineState) (n : ℕ) → e ≡ fresh → n ≡ 0 → Going (load_lines count seed) (setup_from 0 setup_len (payments_from seed count 0 count)) e.play n
+unfolding load_lines
+load_begins count seed e n is none =
+    let lines = load_lines count seed in
+    let blank_play : e.play ≡ blank = ap (λ (x : EngineState). x.play) is in
+    subst (λ (k : ℕ). Going lines lines e.play k) (sym none) (subst (λ (p : Play). Going lines lines p 0) (sym blank_play) (begins lines))
+
 -- one line more
 one_played : (lines rest : List Text) (line : Text) (p : Play) (n : ℕ) (q : Played) → Going lines (line ∷ rest) p n → play_line p line ≡ Ok q → Going lines rest q.play (n + 1)
 one_played lines rest line p n q g e = record {

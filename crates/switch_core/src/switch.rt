@@ -43,7 +43,7 @@ impl Core {
 
     /// A switch over a setup, with no history yet. `alloc` serves what it will keep. It refuses
     /// exactly where a line isn't accepted behind those before it, with the first such line; it
-    /// may also find no memory.
+    /// may also find no memory, and then the place says nothing.
     pub fn new(alloc: Global, setup: Setup) -> Result<Core, At>
         ensures answer { Calls.NewAnswer setup.lines result }
         ensures switch { IfOk result Calls.IsSwitch }
