@@ -1,0 +1,15 @@
+-- What the shards have to do with histories: the laws.
+use Rattle.std.specs.Prelude.{◌≡◌, ◌∷◌, true, false}
+use Rattle.upi_words.specs.Prelude.{Call, Entry, History, Legal, is_closed}
+use Rattle.upi_model.specs.History.{is_close}
+use Rattle.upi_model.specs.Legal.{may_come}
+use Rattle.upi_model.specs.Owners.{message_of}
+use Rattle.core_shards.specs.Steps.{CanPlan}
+use Rattle.core_shards.specs.Tables.{IsCore, Tables}
+
+-- tables, and histories
+pub record CoreLaws : Type 0 where
+  -- a call that may come after a history without a Close can be planned
+  pub can_plan : (h : History) (v : Tables) (c : Call) → IsCore h v → is_closed h ≡ false → is_close c ≡ false → may_come v.lines h c ≡ true → CanPlan v c (message_of h c)
+  -- an entry after a Close leaves the tables as they are
+  pub rests : (h : History) (e : Entry) (v : Tables) → IsCore h v → is_closed h ≡ true → Legal v.lines (e ∷ h) → IsCore (e ∷ h) v

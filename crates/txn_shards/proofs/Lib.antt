@@ -1,0 +1,7 @@
+pub mod Changes
+pub mod Calls
+pub mod Histories
+pub mod Outcomes
+pub mod OneOrder
+pub mod DueLists
+pub mod Gathered

@@ -1,0 +1,2 @@
+pub mod Txns
+pub mod TxnLaws
