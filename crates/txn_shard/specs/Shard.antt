@@ -1,5 +1,5 @@
 -- What a shard of transactions stands for, and what is planned of a call.
-use Rattle.std.specs.Prelude.{ℕ, ◌≡◌, ◌<◌, Bool, true, false, List, [], ◌∷◌, ◌++◌, Option, Some, None}
+use Rattle.std.specs.Prelude.{ℕ, ◌≡◌, ◌<◌, true, false, List, [], ◌∷◌, ◌++◌, Option, Some, None}
 use Rattle.std.specs.List.{AllByRecursion}
 use Rattle.upi_base.specs.Shards.{txn_shard}
 use Rattle.upi_base.specs.declared.entry.{ShardCall.ShardCall}
@@ -42,10 +42,11 @@ pub record Plan : Type 0 where
   pub sent : List Sent
   pub change : Change
 
--- the change opens a transaction
-abbrev pub is_opening : Change → Bool
-is_opening (Change.Opens c) = true
-is_opening _ = false
+-- the name of the transaction that a change opens, if it opens one
+abbrev pub opened_by : Change → Option Text
+opened_by Change.Still = None
+opened_by (Change.Opens c) = Some c.opening.terms.txn
+opened_by (Change.Goes t p) = None
 
 -- the rows after a change
 abbrev pub rows_after : List Course → Change → List Course

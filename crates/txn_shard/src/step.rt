@@ -34,8 +34,9 @@ impl Model for Step {
 }
 
 impl Step {
-    ghost use Rattle.std.specs.Prelude.{◌≡◌, [], true, false};
-    ghost use Rattle.txn_shard.specs.Shard.{is_opening};
+    ghost use Rattle.std.specs.Prelude.{◌≡◌, []};
+    ghost use Rattle.std.specs.Option.{option_copied};
+    ghost use Rattle.txn_shard.specs.Shard.{opened_by};
 
     /// The reply to the call.
     pub fn reply(&self) -> &Reply
@@ -51,14 +52,15 @@ impl Step {
         self.sent.items()
     }
 
-    /// Whether the call opens a transaction, whose row goes behind the others.
-    pub fn opens(&self) -> bool
-        ensures { result ≡ is_opening self.now.change }
+    /// The name of the transaction that the call opens, if it opens one. Its row goes behind the
+    /// others.
+    pub fn opens(&self) -> Option<&TxnId>
+        ensures { option_copied result ≡ opened_by self.now.change }
     {
         match &self.change {
-            Change::Still => false,
-            Change::Opens(_row) => true,
-            Change::Goes(_txn, _progress) => false,
+            Change::Still => None,
+            Change::Opens(row) => Some(&row.opening().terms.txn),
+            Change::Goes(_txn, _progress) => None,
         }
     }
 

@@ -1,19 +1,20 @@
 -- What a call on one shard makes of the sixteen.
 use Rattle.std.proofs.Common.{◌≡◌, ℕ, ◌<◌, List, length, map, set, get_or, Option, Some, None, refl, sym, ap, subst, ◌∙◌, arith}
 use Rattle.std.specs.Prelude.{slice_get}
+use Rattle.std.specs.Option.{option_and_then}
 use Rattle.upi_base.specs.Shards.{txn_shard}
 use Rattle.upi_base.proofs.Options.{some_same}
-use Rattle.upi_words.specs.Prelude.{Body, Call, Owner, Sent, Setup}
+use Rattle.upi_words.specs.Prelude.{Body, Call, Owner, Sent, Setup, History, Text}
 use Rattle.upi_model.specs.Accounts.{order_of}
 use Rattle.upi_model.specs.Fits.{owner_with}
 use Rattle.upi_model.specs.Own.{delivered_with, event_with}
 use Rattle.upi_model.specs.Owners.{body_owner, body_txn, delivered_owner}
 use Rattle.bank_shards.proofs.Places.{get_is, get_set_same, map_set}
 use Rattle.txn_row.specs.Rows.{Course}
-use Rattle.txn_shard.specs.Rows.{Shard}
-use Rattle.txn_shard.specs.Shard.{Plan, IsPlanned, MakesAll, rows_after}
+use Rattle.txn_shard.specs.Rows.{Shard, row_at}
+use Rattle.txn_shard.specs.Shard.{Stands, Plan, IsPlanned, MakesAll, rows_after}
 use Rattle.txn_shard.specs.declared.step.{Change.Change}
-use Rattle.txn_shards.specs.Txns.{IsPlannedIn, MakesIn, Placed, rows_all, rows_of, rows_with}
+use Rattle.txn_shards.specs.Txns.{StandTxns, IsPlannedIn, MakesIn, Placed, entries_in, row_in, rows_all, rows_of, rows_with}
 use Rattle.txn_shards.proofs.Changes.{planned_in, rows_at, rows_set}
 
 -- a shard was read at a place of the sixteen
@@ -33,6 +34,14 @@ module _ (old xs : List Shard) (k : ℕ) (x : Shard) (read : IsRead old xs k x) 
 
   pub found_rows : slice_get (rows_all old) k ≡ Some x.rows
   found_rows = ap (λ (ys : List Shard). slice_get (rows_all ys) k) (sym read.same) ∙ rows_at xs k x found
+
+  -- the shard of a transaction stands for its entries
+  pub stands_here : (S : Setup) (h : History) (t : Text) → k ≡ txn_shard t → StandTxns S (entries_in h) (rows_all old) → Stands S (txn_shard t) (entries_in h (txn_shard t)) x.rows
+  stands_here S h t at all = subst (λ (n : ℕ). Stands S n (entries_in h n) x.rows) at (all.each k x.rows found_rows)
+
+  -- its row is that which is found in all shards
+  pub row_here : (t : Text) → k ≡ txn_shard t → row_at x.rows t ≡ row_in (rows_all old) t
+  row_here t at = ap (λ (o : Option (List Course)). option_and_then (λ (rows : List Course). row_at rows t) o) (sym (ap (slice_get (rows_all old)) (sym at) ∙ found_rows))
 
   pub rows_stay : (now : Shard) → now.rows ≡ x.rows → rows_all (set xs k now) ≡ rows_all old
   rows_stay now same = map_set rows_of xs k now x found same ∙ ap rows_all read.same

@@ -26,7 +26,7 @@ owner_is_with h (Call.Late t) = refl
 owner_is_with h Call.Close = refl
 
 -- the rows of the shard at which a call was planned
-placed : (S : Setup) (mine : ℕ → List Deed) (rss : List (List Course)) (c : Call) (m : Option Sent) (now : ℕ) (x : Placed) → StandTxns S mine rss → MakesIn S rss c m now x → (rows : List Course) × (slice_get rss x.place ≡ Some rows)
+pub placed : (S : Setup) (mine : ℕ → List Deed) (rss : List (List Course)) (c : Call) (m : Option Sent) (now : ℕ) (x : Placed) → StandTxns S mine rss → MakesIn S rss c m now x → (rows : List Course) × (slice_get rss x.place ≡ Some rows)
 placed S mine rss c m now x all makes = some_at rss x.place (let n = all.sixteen in let w = makes.within in omega (arith, n, w))
 
 bare_at : (xs : List Shard) (s : ℕ) (rows : List Course) → AllByRecursion IsBare xs → slice_get (rows_all xs) s ≡ Some rows → [] ≡ rows
@@ -34,7 +34,7 @@ bare_at [] s rows bare is = absurd cc
 bare_at (x ∷ xs) zero rows bare is = sym bare.0 ∙ some_same x.rows rows is
 bare_at (x ∷ xs) (suc s) rows bare is = bare_at xs s rows bare.1 is
 
-length_rows : (xs : List Shard) → length (rows_all xs) ≡ length xs
+pub length_rows : (xs : List Shard) → length (rows_all xs) ≡ length xs
 length_rows [] = refl
 length_rows (x ∷ xs) = ap suc (length_rows xs)
 
@@ -76,6 +76,7 @@ returns S h rss all =
     ∙ returns_by S (λ (k : ℕ). at_close S (own_deeds (Owner.Txns k) h)) rss (λ s rows is. shard_laws.returns S s (entries_in h s) rows (all.each s rows is)) 16 (let n = all.sixteen in omega (arith, n))
   where
     whole : (xs : List (List Course)) (n : ℕ) → length xs ≤ n → xs ≡ take n xs
-    whole [] n le = refl
+    whole [] zero le = refl
+    whole [] (suc n) le = refl
     whole (x ∷ xs) zero le = absurd (omega arith)
     whole (x ∷ xs) (suc n) le = ap (λ (ys : List (List Course)). x ∷ ys) (whole xs n (omega (arith, le)))

@@ -1,11 +1,13 @@
 -- What a contract sees of the sixteen shards of transactions: for which entries they stand, and what is planned of a call.
 use Rattle.std.specs.Prelude.{ℕ, zero, suc, ◌≡◌, ◌<◌, List, [], ◌∷◌, ◌++◌, Option, Some, None, IsSomeAnd, length, map, slice_get}
 use Rattle.std.specs.List.{flat_map}
-use Rattle.upi_words.specs.Prelude.{Call, Owner, Sent, Setup, History, Text}
+use Rattle.std.specs.Option.{option_and_then}
+use Rattle.upi_base.specs.Shards.{txn_shard}
+use Rattle.upi_words.specs.Prelude.{Call, Opening, Owner, Sent, Setup, History, Text}
 use Rattle.upi_model.specs.Fits.{owner_with}
 use Rattle.upi_model.specs.Own.{Deed, delivered_with, event_with, own_deeds}
 use Rattle.txn_row.specs.Rows.{Course}
-use Rattle.txn_shard.specs.Rows.{Shard, IsDueOf, rows_return}
+use Rattle.txn_shard.specs.Rows.{Shard, IsDueOf, row_at, rows_return}
 use Rattle.txn_shard.specs.Shard.{Stands, Plan, IsPlanned, MakesAll, rows_after}
 use Rattle.txn_shard.specs.declared.step.{Change.Change}
 
@@ -50,6 +52,14 @@ abbrev pub rows_with : List (List Course) → ℕ → Change → List (List Cour
 rows_with [] k c = []
 rows_with (rows ∷ rss) zero c = rows_after rows c ∷ rss
 rows_with (rows ∷ rss) (suc k) c = rows ∷ rows_with rss k c
+
+-- the row of a transaction, in its shard
+abbrev pub row_in : List (List Course) → Text → Option Course
+row_in rss t = option_and_then (λ (rows : List Course). row_at rows t) (slice_get rss (txn_shard t))
+
+-- the name of an opened transaction
+abbrev pub name_of : Opening → Text
+name_of o = o.terms.txn
 
 -- what all shards would make arrive at a Close, shard after shard
 abbrev pub all_return : Setup → List (List Course) → List Sent

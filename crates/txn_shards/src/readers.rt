@@ -1,10 +1,12 @@
 //! What the shards say of their transactions.
 ghost use Rattle.std.specs.Prelude.{◌≡◌, ◌++◌, ◌<◌, false, slice_get, IfOk, OnOk};
+ghost use Rattle.std.specs.Option.{option_copied};
 ghost use Rattle.upi_words.specs.Prelude.{Setup, History, Legal, is_closed, outcome_of};
 ghost use Rattle.upi_model.specs.DueList.{due_list};
-ghost use Rattle.txn_shards.specs.Txns.{StandTxns, Appends, all_return, entries_in, returns_of, rows_all};
+ghost use Rattle.txn_shards.specs.Txns.{StandTxns, Appends, all_return, entries_in, returns_of, row_in, rows_all};
 
 use crate::txns::TxnShards;
+use txn_row::Row;
 use upi_base::{NoMemory, Outcome, Sent, TxnId, txn_shard};
 use vpa_directory::Directory;
 
@@ -20,6 +22,15 @@ impl TxnShards {
         } else {
             shard.outcome(txn)
         }
+    }
+
+    /// The row of a transaction, if it was opened.
+    pub fn find(&self, txn: &TxnId) -> Option<&Row>
+        ensures { option_copied result ≡ row_in (rows_all self.now) txn.now }
+    {
+        let place = txn_shard(txn) as usize;
+        let shard = &self.shards[place];
+        shard.find(txn)
     }
 
     // Appends the reversals that a Close would make arrive of the shard at a place.

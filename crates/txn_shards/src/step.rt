@@ -1,7 +1,7 @@
 //! What is planned of a call.
 use std::marker::Model;
 use txn_shard::Step as OneStep;
-use upi_base::{Reply, Sent, SentList};
+use upi_base::{Reply, Sent, SentList, TxnId};
 
 /// A call that was planned: at which shard, and what there.
 #[derive(Drop)]
@@ -20,7 +20,8 @@ impl Model for Step {
 
 impl Step {
     ghost use Rattle.std.specs.Prelude.{◌≡◌, []};
-    ghost use Rattle.txn_shard.specs.Shard.{is_opening};
+    ghost use Rattle.std.specs.Option.{option_copied};
+    ghost use Rattle.txn_shard.specs.Shard.{opened_by};
 
     /// The number of the shard, below 16.
     pub fn place(&self) -> usize
@@ -43,9 +44,9 @@ impl Step {
         self.step.sent()
     }
 
-    /// Whether the call opens a transaction, whose row goes behind the others of its shard.
-    pub fn opens(&self) -> bool
-        ensures { result ≡ is_opening self.now.plan.change }
+    /// The name of the transaction that the call opens, if it opens one.
+    pub fn opens(&self) -> Option<&TxnId>
+        ensures { option_copied result ≡ opened_by self.now.plan.change }
     {
         self.step.opens()
     }

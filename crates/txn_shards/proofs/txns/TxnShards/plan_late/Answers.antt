@@ -22,7 +22,7 @@ returns-clause-makes c =
     let read : IsRead c.args.self.now c.self.inside.shards.items c.txn_shard-place.result c.index_mut-shard.result.now =
     record { same = c.self.view_is; sixteen = c.self.invariant; within = c.txn_shard-place.ensures.bound; is = c.index_mut-shard.ensures.value } in
     let number = sym c.txn_shard-place.ensures.value in
-    step_makes c.args.self.now c.self.inside.shards.items c.txn_shard-place.result c.index_mut-shard.result.now read c.args.dir.now.lines (Call.Late c.args.txn.now) None c.args.now c.in_ok-step.step (ap (λ (n : ℕ). Owner.Txns n) number) (c.in_ok-step.ensures.makes c.txn_shard-place.result number)
+    step_makes c.args.self.now c.self.inside.shards.items c.txn_shard-place.result c.index_mut-shard.result.now read c.args.dir.now.lines (Call.Late c.args.txn.now) None c.args.now c.in_ok-step.step (ap (λ (n : ℕ). Owner.Txns n) number) (c.in_ok-step.ensures.makes c.txn_shard-place.result)
 
 pub returns-clause-rows : goal.returns-clause-rows
 returns-clause-rows c =
