@@ -3,6 +3,7 @@ use Rattle.std.proofs.Common.{◌≡◌, ℕ, zero, suc, ◌≤◌, Bool, true, 
 use Rattle.std.specs.Prelude.{◌==◌, ◌&&◌, not, slice_get}
 use Rattle.std.specs.List.{AllByRecursion}
 use Rattle.std.proofs.lemmas.Bool.{or_parts}
+use Rattle.std.proofs.lemmas.List.{take_all}
 use Rattle.upi_base.proofs.Options.{some_same}
 use Rattle.upi_words.specs.Prelude.{Call, Entry, Owner, Sent, Setup, History, Legal, is_closed}
 use Rattle.upi_model.specs.AtClose.{at_close}
@@ -72,11 +73,5 @@ rests S h e rss shut all = stand_as S (entries_in h) (entries_in (e ∷ h)) rss 
 
 pub returns : (S : Setup) (h : History) (rss : List (List Course)) → StandTxns S (entries_in h) rss → all_return S rss ≡ all_returns 16 S h
 returns S h rss all =
-    ap (all_return S) (whole rss 16 (let n = all.sixteen in omega (arith, n)))
+    ap (all_return S) (sym (take_all 16 rss (let n = all.sixteen in omega (arith, n))))
     ∙ returns_by S (λ (k : ℕ). at_close S (own_deeds (Owner.Txns k) h)) rss (λ s rows is. shard_laws.returns S s (entries_in h s) rows (all.each s rows is)) 16 (let n = all.sixteen in omega (arith, n))
-  where
-    whole : (xs : List (List Course)) (n : ℕ) → length xs ≤ n → xs ≡ take n xs
-    whole [] zero le = refl
-    whole [] (suc n) le = refl
-    whole (x ∷ xs) zero le = absurd (omega arith)
-    whole (x ∷ xs) (suc n) le = ap (λ (ys : List (List Course)). x ∷ ys) (whole xs n (omega (arith, le)))

@@ -1,16 +1,16 @@
-use Rattle.std.proofs.Common.{ℕ, Option, Some, None, refl, sym, subst}
+use Rattle.std.proofs.Common.{ℕ, Option, Some, None, refl, sym, ap, subst}
 use Rattle.upi_words.specs.Prelude.{Call, Sent}
 use Rattle.txn_shards.specs.Txns.{MakesIn, rows_all}
 use Rattle.core_shards.specs.declared.step.{Step.Step}
 use Rattle.core_shards.specs.Steps.{IsStepOf}
-use Rattle.core_shards.specs.Tables.{IsCore, Tables}
-use Rattle.core_shards.proofs.Commits.{core_same, heard_of, late_of, txn_defined}
+use Rattle.core_shards.specs.Tables.{StandsAll, Tables}
+use Rattle.core_shards.proofs.Commits.{txns_same, heard_of, late_of, txn_defined}
 use Rattle.core_shards.proofs.tables.CoreShards.plan_late.Goals as goal
 
 pub returns-in_err-step-clause-same : goal.returns-in_err-step-clause-same
-returns-in_err-step-clause-same c = λ h core.
-    let v : Tables = record { lines = c.self.inside.dir.lines; txns = c.self.inside.txns; banks = c.self.inside.banks; flight = c.self.inside.flight; closed = c.self.inside.closed } in
-    core_same h v c.plan_late.new.self c.self.inside.banks c.in_err-step.ensures.rows refl (subst (IsCore h) (sym c.self.view_is) core)
+returns-in_err-step-clause-same c =
+    let v : Tables = record { lines = c.self.inside.dir.lines; txns = c.self.inside.txns; banks = c.self.inside.banks; opened = c.self.inside.opened; flight = c.self.inside.flight; closed = c.self.inside.closed } in
+    txns_same v c.args.self.now c.plan_late.new.self c.self.view_is c.in_err-step.ensures.rows
 
 pub returns-clause-planned : goal.returns-clause-planned
 returns-clause-planned c = c.in_ok-step.ensures.planned
@@ -26,6 +26,12 @@ returns-clause-defined c = λ h core run.
     (subst (λ (v : Tables). MakesIn v.lines (rows_all v.txns) (Call.Late c.args.txn.now) None c.args.now c.in_ok-step.step) c.self.view_is c.in_ok-step.ensures.makes) core run refl
 
 pub returns-clause-same : goal.returns-clause-same
-returns-clause-same c = λ h core.
-    let v : Tables = record { lines = c.self.inside.dir.lines; txns = c.self.inside.txns; banks = c.self.inside.banks; flight = c.self.inside.flight; closed = c.self.inside.closed } in
-    core_same h v c.plan_late.new.self c.self.inside.banks c.in_ok-step.ensures.rows refl (subst (IsCore h) (sym c.self.view_is) core)
+returns-clause-same c =
+    let v : Tables = record { lines = c.self.inside.dir.lines; txns = c.self.inside.txns; banks = c.self.inside.banks; opened = c.self.inside.opened; flight = c.self.inside.flight; closed = c.self.inside.closed } in
+    txns_same v c.args.self.now c.plan_late.new.self c.self.view_is c.in_ok-step.ensures.rows
+
+pub returns-in_err-step-clause-opened : goal.returns-in_err-step-clause-opened
+returns-in_err-step-clause-opened c = ap (λ (v : Tables). v.opened) c.self.view_is
+
+pub returns-clause-opened : goal.returns-clause-opened
+returns-clause-opened c = ap (λ (v : Tables). v.opened) c.self.view_is

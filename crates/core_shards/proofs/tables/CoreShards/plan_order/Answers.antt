@@ -1,4 +1,4 @@
-use Rattle.std.proofs.Common.{◌≡◌, ℕ, false, Some, refl, sym, subst}
+use Rattle.std.proofs.Common.{◌≡◌, ℕ, false, Some, refl, sym, ap, subst}
 use Rattle.std.specs.Prelude.{IsSomeAnd}
 use Rattle.upi_words.specs.Prelude.{Call, Order, Sent, Setup, History, Legal, is_closed}
 use Rattle.upi_model.specs.Accounts.{order_of}
@@ -8,17 +8,17 @@ use Rattle.bank_shards.specs.Banks.{StandAll, CanPostIn}
 use Rattle.bank_shards.specs.Histories.{orders_in}
 use Rattle.core_shards.specs.declared.step.{Step.Step}
 use Rattle.core_shards.specs.Steps.{IsStepOf}
-use Rattle.core_shards.specs.Tables.{IsCore, Tables}
-use Rattle.core_shards.proofs.Commits.{core_same, leg_defined}
+use Rattle.core_shards.specs.Tables.{StandsAll, Tables}
+use Rattle.core_shards.proofs.Commits.{banks_same, leg_defined}
 use Rattle.core_shards.proofs.tables.CoreShards.plan_order.Goals as goal
 
 pub plan-requires : goal.plan-requires
 plan-requires c = subst (λ (v : Tables). IsSomeAnd (order_of c.args.message.now.body) (λ (o : Order). CanPostIn v.banks o)) (sym c.self.view_is) c.requires
 
 pub returns-in_err-step-clause-same : goal.returns-in_err-step-clause-same
-returns-in_err-step-clause-same c = λ h core.
-    let v : Tables = record { lines = c.self.inside.dir.lines; txns = c.self.inside.txns; banks = c.self.inside.banks; flight = c.self.inside.flight; closed = c.self.inside.closed } in
-    core_same h v c.self.inside.txns c.plan.new.self refl c.in_err-step.ensures.same (subst (IsCore h) (sym c.self.view_is) core)
+returns-in_err-step-clause-same c =
+    let v : Tables = record { lines = c.self.inside.dir.lines; txns = c.self.inside.txns; banks = c.self.inside.banks; opened = c.self.inside.opened; flight = c.self.inside.flight; closed = c.self.inside.closed } in
+    banks_same v c.args.self.now c.plan.new.self c.self.view_is c.in_err-step.ensures.same
 
 pub returns-clause-planned : goal.returns-clause-planned
 returns-clause-planned c = c.in_ok-step.ensures.planned
@@ -33,6 +33,12 @@ returns-clause-defined c = λ h n core run has.
     core run has
 
 pub returns-clause-same : goal.returns-clause-same
-returns-clause-same c = λ h core.
-    let v : Tables = record { lines = c.self.inside.dir.lines; txns = c.self.inside.txns; banks = c.self.inside.banks; flight = c.self.inside.flight; closed = c.self.inside.closed } in
-    core_same h v c.self.inside.txns c.plan.new.self refl c.in_ok-step.ensures.same (subst (IsCore h) (sym c.self.view_is) core)
+returns-clause-same c =
+    let v : Tables = record { lines = c.self.inside.dir.lines; txns = c.self.inside.txns; banks = c.self.inside.banks; opened = c.self.inside.opened; flight = c.self.inside.flight; closed = c.self.inside.closed } in
+    banks_same v c.args.self.now c.plan.new.self c.self.view_is c.in_ok-step.ensures.same
+
+pub returns-in_err-step-clause-opened : goal.returns-in_err-step-clause-opened
+returns-in_err-step-clause-opened c = ap (λ (v : Tables). v.opened) c.self.view_is
+
+pub returns-clause-opened : goal.returns-clause-opened
+returns-clause-opened c = ap (λ (v : Tables). v.opened) c.self.view_is
