@@ -1,9 +1,10 @@
 -- A transaction as the report sees it, by what the tables say of it.
-use Rattle.std.proofs.Common.{◌≡◌, ℕ, zero, suc, ◌<◌, ◌+◌, Bool, true, List, [], ◌∷◌, map, Option, Some, None, refl, sym, ap, subst, ◌∙◌}
+use Rattle.std.proofs.Common.{◌≡◌, ℕ, zero, suc, ◌+◌, Bool, true, List, [], ◌∷◌, map, take, Option, Some, None, refl, sym, ap, subst, ◌∙◌, arith}
 use Rattle.std.specs.Prelude.{is_some, slice_get}
 use Rattle.std.specs.List.{AllByRecursion}
 use Rattle.std.specs.Option.{option_map}
 use Rattle.std.proofs.lemmas.Option.{slice_get-map}
+use Rattle.upi_base.specs.Lists.{joined}
 use Rattle.upi_base.specs.Setup.{account_at, listing_at, is_setup}
 use Rattle.upi_words.specs.Prelude.{Account, AccountRef, Answer, Leg, Listing, Opening, Outcome, PayReq, Setup, History, Text, Legal, TxnRow, opened, opening, outcome_of}
 use Rattle.upi_model.specs.Postings.{answer, is_posted, posted_at}
@@ -87,3 +88,16 @@ opening_at S h k o is = go (opened S h) (opening_laws.found S h) k is
 -- what stands at a place of the names
 pub name_at : (S : Setup) (h : History) (names : List Text) (k : ℕ) → names ≡ map name_of (opened S h) → slice_get names k ≡ option_map name_of (slice_get (opened S h) k)
 name_at S h names k is = ap (λ (xs : List Text). slice_get xs k) is ∙ slice_get-map name_of (opened S h) k
+
+-- one row more
+pub rows_more : {X Y : Type 0} (f : X → Y) (xs : List X) (i : ℕ) → joined (map f (take i xs)) (option_map f (slice_get xs i)) ≡ map f (take (i + 1) xs)
+rows_more f [] zero = refl
+rows_more f [] (suc i) = let n : suc i + 1 ≡ suc (i + 1) = omega arith in ap (λ (k : ℕ). map f (take k [])) (sym n)
+rows_more f (x ∷ xs) zero = refl
+rows_more f (x ∷ xs) (suc i) =
+    let n : suc i + 1 ≡ suc (i + 1) = omega arith in
+    joined_behind (f x) (map f (take i xs)) (option_map f (slice_get xs i)) ∙ ap (λ (ys : List Y). f x ∷ ys) (rows_more f xs i) ∙ ap (λ (k : ℕ). map f (take k (x ∷ xs))) (sym n)
+  where
+    joined_behind : {Z : Type 0} (z : Z) (zs : List Z) (o : Option Z) → joined (z ∷ zs) o ≡ z ∷ joined zs o
+    joined_behind z zs None = refl
+    joined_behind z zs (Some w) = refl

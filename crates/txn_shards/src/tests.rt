@@ -115,20 +115,42 @@ fn is_told(
     Some(told)
 }
 
-// The transaction's outcomes before and after its approval came a minute late.
+// Whether a look at the transaction gets this reply, with so many messages.
+fn is_looked_at(
+    txns: &mut TxnShards,
+    dir: &Directory,
+    at: u64,
+    wanted: (Reply, usize),
+) -> Option<bool> {
+    let txn = TxnId::read(b"C1")?;
+    let step = txns.plan_late(dir, &txn, Moment::of(at)?).ok()?;
+    let told = *step.reply() == wanted.0 && step.sent().len() == wanted.1;
+    txns.commit(step);
+    Some(told)
+}
+
+// The approval comes when the minute is over: it is refused, and the next look ends the transaction.
+fn is_refused(alloc: Global, txns: &mut TxnShards, dir: &Directory) -> Option<bool> {
+    let asked = (Reply::Ack(None), 1);
+    let opened = is_told(txns, dir, b"beta", collect(alloc)?, START, asked)?;
+    let early = is_looked_at(txns, dir, START + 59, (Reply::NotDue, 0))?;
+    let expired = (Reply::Ack(Some(Code::Expired)), 0);
+    let refused = is_told(txns, dir, b"alpha", approval(alloc)?, START + 60, expired)?;
+    let due = txns.due(START + 59).ok()?.is_empty() && txns.due(START + 60).ok()?.len() == 1;
+    let late = is_looked_at(txns, dir, START + 60, (Reply::Acted, 2))?;
+    Some(opened && early && refused && due && late)
+}
+
+// The transaction's outcomes before its approval came, and after it: open, and had the switch closed.
 fn outcomes(alloc: Global, txns: &mut TxnShards, dir: &Directory) -> Option<[Option<Outcome>; 3]> {
     let txn = TxnId::read(b"C1")?;
-    let asked = (Reply::Ack(None), 1);
-    if !is_told(txns, dir, b"beta", collect(alloc)?, START, asked)? {
+    let before = txns.outcome(&txn, true);
+    if txns.find(&txn).is_some() || !is_refused(alloc, txns, dir)? {
         return None;
     }
-    let before = txns.outcome(&txn, false);
-    let closed = txns.outcome(&txn, true);
-    let late = (Reply::Ack(Some(Code::Expired)), 2);
-    if !is_told(txns, dir, b"alpha", approval(alloc)?, START + 60, late)? {
-        return None;
-    }
-    Some([before, closed, txns.outcome(&txn, false)])
+    let ended = txns.outcome(&txn, false);
+    txns.find(&txn)?;
+    Some([before, ended, txns.outcome(&txn, true)])
 }
 
 #[test]
@@ -137,6 +159,6 @@ fn an_approval_at_the_due_moment_is_late(rt: HostRuntime) -> Result<(), Fail> {
     let mut txns = TxnShards::new(rt.alloc(), RandomState::new(&rt)?)?;
     let found = outcomes(rt.alloc(), &mut txns, &dir);
     let expired = Some(Outcome::Failure(Code::Expired));
-    assert!(rt; found == Some([None, Some(Outcome::Failure(Code::Closed)), expired]));
+    assert!(rt; found == Some([None, expired, expired]));
     Ok(())
 }
