@@ -178,10 +178,12 @@ order_in o (Step.Leg x) = x.order
 
 -- a step with or without its messages is at one place, of one change and one order
 pub same_txn : (x : Step) (y : Placed) → without_sent x ≡ without_sent (Step.Txn y) → (z : Placed) × (x ≡ Step.Txn z) × (z.place ≡ y.place) × (z.plan.change ≡ y.plan.change)
+unfolding place_in change_in
 same_txn (Step.Txn z) y same = (z, refl, ap place_in same, ap change_in same)
 same_txn (Step.Leg z) y same = absurd cc
 
 pub same_leg : (x : Step) (y : Plan) → without_sent x ≡ without_sent (Step.Leg y) → (z : Plan) × (x ≡ Step.Leg z) × (z.order ≡ y.order)
+unfolding order_in
 same_leg (Step.Leg z) y same = (z, refl, ap (order_in z.order) same)
 same_leg (Step.Txn z) y same = absurd cc
 

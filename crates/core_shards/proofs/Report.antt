@@ -6,6 +6,7 @@ use Rattle.std.specs.Option.{option_map}
 use Rattle.std.proofs.lemmas.Option.{slice_get-map}
 use Rattle.upi_base.specs.Lists.{joined}
 use Rattle.upi_base.specs.Setup.{account_at, listing_at, is_setup}
+use Rattle.upi_base.proofs.Options.{some_same}
 use Rattle.upi_words.specs.Prelude.{Account, AccountRef, Answer, Leg, Listing, Opening, Outcome, PayReq, Setup, History, Text, Legal, TxnRow, opened, opening, outcome_of}
 use Rattle.upi_model.specs.Postings.{answer, is_posted, posted_at}
 use Rattle.upi_model.specs.Settlement.{bank_at, bank_of, txn_row}
@@ -14,7 +15,9 @@ use Rattle.upi_model.proofs.Gathered.{opening_laws}
 use Rattle.upi_model.proofs.Openings.{all_picked}
 use Rattle.upi_laws.proofs.Sums.{known_at}
 use Rattle.txn_row.proofs.Accounts.{refs_are}
-use Rattle.txn_shards.specs.Txns.{name_of}
+use Rattle.txn_row.specs.Rows.{Course}
+use Rattle.txn_shards.specs.Txns.{StandTxns, entries_in, name_of, row_in}
+use Rattle.txn_shards.proofs.Gathered.{txn_laws}
 
 -- the account that the setup's listing of an address names
 abbrev pub listed : Setup → Text → Option AccountRef
@@ -89,12 +92,40 @@ opening_at S h k o is = go (opened S h) (opening_laws.found S h) k is
 pub name_at : (S : Setup) (h : History) (names : List Text) (k : ℕ) → names ≡ map name_of (opened S h) → slice_get names k ≡ option_map name_of (slice_get (opened S h) k)
 name_at S h names k is = ap (λ (xs : List Text). slice_get xs k) is ∙ slice_get-map name_of (opened S h) k
 
+-- a row by its name
+pub row_by : (S : Setup) (h : History) (k : ℕ) (t : Text) (r : Option TxnRow) → Some t ≡ option_map name_of (slice_get (opened S h) k) → ((o : Opening) → opening S t h ≡ Some o → r ≡ Some (txn_row S h o)) → r ≡ option_map (txn_row S h) (slice_get (opened S h) k)
+row_by S h k t r is each = go (slice_get (opened S h) k) refl is
+  where
+    go : (x : Option Opening) → slice_get (opened S h) k ≡ x → Some t ≡ option_map name_of x → r ≡ option_map (txn_row S h) x
+    go None at named = absurd cc
+    go (Some o) at named =
+        let same : t ≡ o.terms.txn = cc in
+        each o (ap (λ (u : Text). opening S u h) same ∙ opening_at S h k o at)
+
+pub none_by : (S : Setup) (h : History) (k : ℕ) → None ≡ option_map name_of (slice_get (opened S h) k) → None ≡ option_map (txn_row S h) (slice_get (opened S h) k)
+none_by S h k is = go (slice_get (opened S h) k) is
+  where
+    go : (x : Option Opening) → None ≡ option_map name_of x → None ≡ option_map (txn_row S h) x
+    go None named = refl
+    go (Some o) named = absurd cc
+
+-- the row of an opened transaction is of its opening
+module _ (S : Setup) (h : History) (rss : List (List Course)) (t : Text) (o : Opening) (stand : StandTxns S (entries_in h) rss) (begun : opening S t h ≡ Some o) where
+  pub no_row : None ≡ row_in rss t → ⊥
+  no_row none = go (ap (option_map (λ (c : Course). c.opening)) none ∙ txn_laws.rows S h rss t stand ∙ begun)
+    where
+      go : None ≡ Some o → ⊥
+      go e = absurd cc
+
+  pub has_row : (c : Course) → Some c ≡ row_in rss t → c.opening ≡ o
+  has_row c is = some_same c.opening o (ap (option_map (λ (c : Course). c.opening)) is ∙ txn_laws.rows S h rss t stand ∙ begun)
+
 -- one row more
 pub rows_more : {X Y : Type 0} (f : X → Y) (xs : List X) (i : ℕ) → joined (map f (take i xs)) (option_map f (slice_get xs i)) ≡ map f (take (i + 1) xs)
 rows_more f [] zero = refl
 rows_more f [] (suc i) = let n : suc i + 1 ≡ suc (i + 1) = omega arith in ap (λ (k : ℕ). map f (take k [])) (sym n)
 rows_more f (x ∷ xs) zero = refl
-rows_more f (x ∷ xs) (suc i) =
+rows_more {Y = Y} f (x ∷ xs) (suc i) =
     let n : suc i + 1 ≡ suc (i + 1) = omega arith in
     joined_behind (f x) (map f (take i xs)) (option_map f (slice_get xs i)) ∙ ap (λ (ys : List Y). f x ∷ ys) (rows_more f xs i) ∙ ap (λ (k : ℕ). map f (take k (x ∷ xs))) (sym n)
   where

@@ -10,7 +10,7 @@ use Rattle.upi_laws.proofs.Conserved.{legal_keeps_money}
 
 accounts_append : (S T : Setup) → accounts (S ++ T) ≡ accounts S ++ accounts T
 accounts_append [] T = refl
-accounts_append (l ∷ ls) T = ap (λ (as : List Account). line_accounts l ++ as) (accounts_append ls T) ∙ sym (append_assoc (line_accounts l) (accounts ls) (accounts T))
+accounts_append (l ∷ ls) T = ap (λ (rest : List Account). line_accounts l ++ rest) (accounts_append ls T) ∙ sym (append_assoc (line_accounts l) (accounts ls) (accounts T))
 
 -- the sum over the accounts of one line more
 pub sum_line : (f : Account → ℕ) (lines : Setup) (i : ℕ) (l : SetupLine) → i < length lines → l ≡ get_or lines i l → sum_by f (accounts (take (i + 1) lines)) ≡ sum_by f (accounts (take i lines)) + sum_by f (line_accounts l)
@@ -18,7 +18,7 @@ sum_line f lines i l lt is =
     ap (λ (S : Setup). sum_by f (accounts S)) (front_more lines i l lt is)
     ∙ ap (sum_by f) (accounts_append (take i lines) (l ∷ []))
     ∙ sum_by-append f (accounts (take i lines)) (line_accounts l ++ [])
-    ∙ ap (λ (as : List Account). sum_by f (accounts (take i lines)) + sum_by f as) (append-nil (line_accounts l))
+    ∙ ap (λ (rest : List Account). sum_by f (accounts (take i lines)) + sum_by f rest) (append-nil (line_accounts l))
 
 all_front : (P : Account → Type 0) (xs ys : List Account) → AllByRecursion P (xs ++ ys) → AllByRecursion P xs
 all_front P [] ys all = tt

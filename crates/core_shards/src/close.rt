@@ -17,7 +17,7 @@ impl CoreShards {
         ensures same { (h : History) → StandsAll h self.old → StandsAll h self.new }
     {
         let returns = self.txns.at_close(&self.dir)?;
-        self.banks.reserve(returns.len())?;
+        self.banks.reserve(returns.as_slice().len())?;
         Ok(returns)
     }
 

@@ -1,5 +1,5 @@
 //! The money in flight.
-ghost use Rattle.std.specs.Prelude.{◌≡◌, ◌≤◌, ℕ};
+ghost use Rattle.std.specs.Prelude.{◌≡◌, ◌≤◌, ℕ, true};
 ghost use Rattle.std.specs.List.{AllByRecursion, sum_by};
 ghost use Rattle.upi_base.specs.Setup.{IsNamed, is_setup, line_accounts};
 ghost use Rattle.upi_words.specs.Prelude.{Account, Setup, History, Legal, balance, flight};

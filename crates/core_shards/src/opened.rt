@@ -45,7 +45,7 @@ impl Opened {
     /// Adds a name, if there is one, behind the others. It takes no memory.
     pub(crate) fn add(&mut self, name: Option<&TxnId>)
         requires { 0 < self.old.spare }
-        ensures { self.new.names ≡ joined self.old.names (option_copied name) }
+        ensures { self.new.names ≡ joined self.old.names (option_copied name.entry) }
     {
         if let Some(name) = name {
             self.list.push_reserved(name.copy());

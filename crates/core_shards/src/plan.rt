@@ -115,8 +115,8 @@ impl CoreShards {
     ) -> Result<Step, NoMemory>
         requires { CanPlan self.old.banks call.now (option_copied message) }
         ensures planned { IfOk result (λ x. IsPlannedAt self.new.txns self.new.banks x) }
-        ensures step { IfOk result (λ x. IsStepOf self.old call.now (option_copied message) now x) }
-        ensures defined { IfOk result (λ x. (h : History) → StandsAll h self.old → is_closed h ≡ false → message_of h call.now ≡ option_copied message → IsDefined self.old.lines h call.now now x) }
+        ensures step { IfOk result (λ x. IsStepOf self.old call.now (option_copied message.entry) now x) }
+        ensures defined { IfOk result (λ x. (h : History) → StandsAll h self.old → is_closed h ≡ false → message_of h call.now ≡ option_copied message.entry → IsDefined self.old.lines h call.now now x) }
         ensures same { IsSame self.old self.new }
         ensures opened { self.new.opened ≡ self.old.opened }
     {
@@ -140,8 +140,8 @@ impl CoreShards {
     ) -> Result<Step, NoMemory>
         requires { CanPlan self.old.banks call.now (option_copied message) }
         ensures planned { IfOk result (λ x. IsStep self.new x) }
-        ensures step { IfOk result (λ x. IsStepOf self.new call.now (option_copied message) now x) }
-        ensures defined { IfOk result (λ x. (h : History) → StandsAll h self.old → is_closed h ≡ false → message_of h call.now ≡ option_copied message → IsDefined self.old.lines h call.now now x) }
+        ensures step { IfOk result (λ x. IsStepOf self.new call.now (option_copied message.entry) now x) }
+        ensures defined { IfOk result (λ x. (h : History) → StandsAll h self.old → is_closed h ≡ false → message_of h call.now ≡ option_copied message.entry → IsDefined self.old.lines h call.now now x) }
         ensures lines { self.new.lines ≡ self.old.lines }
         ensures same { (h : History) → StandsAll h self.old → StandsAll h self.new }
     {
