@@ -4,7 +4,7 @@ use std::alloc::Global;
 use std::hash::RandomState;
 use std::test::Fail;
 use upi_base::{
-    AccountRef, Addr, BankCode, Boxed, Call, Head, Input, Kind, Message, Moment, MsgId, OrgId,
+    AccountRef, Addr, BankCode, Boxed, Call, Code, Head, Input, Kind, Message, Moment, MsgId, OrgId,
     Outcome, Paise, PayReq, Policy, PspName, Sent, Setup, SetupLine, SetupLines, TxnId, Ver,
 };
 use vpa_directory::Directory;
@@ -131,13 +131,42 @@ fn played(alloc: Global, core: &mut CoreShards) -> Option<bool> {
     Some(debited && credited && ended && again && sent.len() == 13)
 }
 
-#[test]
-fn a_payment_is_debited_and_credited(rt: HostRuntime) -> Result<(), Fail> {
-    let mut core = core(&rt)?;
-    assert!(rt; played(rt.alloc(), &mut core) == Some(true));
-    let returns = core.plan_close()?;
-    assert!(rt; returns.len() == 1);
+// How many transactions are due at these moments.
+fn due(core: &CoreShards, moments: [u64; 2]) -> Option<(usize, usize)> {
+    let first = core.due(moments[0]).ok()?.len();
+    Some((first, core.due(moments[1]).ok()?.len()))
+}
+
+// Whether the report has the first payment as made, and the second as ended by the Close.
+fn is_reported(core: &CoreShards) -> Option<bool> {
+    let rows = core.rows().ok()?;
+    let (first, second) = (rows.first()?, rows.get(1)?);
+    let made = first.outcome == Some(Outcome::Success) && first.credit_moved;
+    let ended = second.outcome == Some(Outcome::Failure(Code::Closed)) && !second.credit_moved;
+    Some(rows.len() == 2 && made && ended)
+}
+
+// How many reversals a Close makes arrive, and what is held after it.
+fn closed(core: &mut CoreShards) -> Option<(usize, (u64, u64, u128))> {
+    let returns = core.plan_close().ok()?;
+    let many = returns.len();
     core.commit_close(returns);
-    assert!(rt; held(&core) == Some((7_000, 3_500, 0)));
+    Some((many, held(core)?))
+}
+
+// Whether two payments and a Close go as they should.
+fn is_right(alloc: Global, core: &mut CoreShards) -> Option<bool> {
+    let played = played(alloc, core)?;
+    let awaited = due(core, [START + 29, START + 30])? == (0, 2);
+    let ended = closed(core)? == (1, (7_000, 3_500, 0));
+    let rested = due(core, [START, START + 100])? == (0, 0);
+    Some(played && awaited && ended && rested && core.is_closed() && is_reported(core)?)
+}
+
+#[test]
+fn a_payment_is_made_and_another_is_returned_by_the_close(rt: HostRuntime) -> Result<(), Fail> {
+    let mut core = core(&rt)?;
+    let right = is_right(rt.alloc(), &mut core);
+    assert!(rt; right == Some(true));
     Ok(())
 }
