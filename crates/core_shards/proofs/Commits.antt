@@ -53,6 +53,12 @@ txns_same v old txns is rows =
     subst (λ (o : Tables). IsSame o (record { lines = v.lines; txns = txns; banks = v.banks; opened = v.opened; flight = v.flight; closed = v.closed })) is
     (record { lines = refl; txns = rows; banks = refl; names = refl; flight = refl; closed = refl })
 
+-- only room for names changed
+pub names_same : (v old : Tables) (names : Names) → v ≡ old → names.names ≡ v.opened.names → IsSame old (record { lines = v.lines; txns = v.txns; banks = v.banks; opened = names; flight = v.flight; closed = v.closed })
+names_same v old names is same =
+    subst (λ (o : Tables). IsSame o (record { lines = v.lines; txns = v.txns; banks = v.banks; opened = names; flight = v.flight; closed = v.closed })) is
+    (record { lines = refl; txns = refl; banks = refl; names = same; flight = refl; closed = refl })
+
 -- only room of shards of accounts changed
 pub banks_same : (v old : Tables) (banks : List Ledger) → v ≡ old → map without_room banks ≡ map without_room v.banks → IsSame old (record { lines = v.lines; txns = v.txns; banks = banks; opened = v.opened; flight = v.flight; closed = v.closed })
 banks_same v old banks is room =

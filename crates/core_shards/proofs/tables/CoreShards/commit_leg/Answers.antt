@@ -20,5 +20,5 @@ returns-clause-stands c =
     let v : Tables = record { lines = c.self.inside.dir.lines; txns = c.self.inside.txns; banks = c.self.inside.banks; opened = c.self.inside.opened; flight = c.self.inside.flight; closed = c.self.inside.closed } in
     let now : Tables = record { lines = c.self.inside.dir.lines; txns = c.self.inside.txns; banks = c.commit.new.self; opened = c.self.inside.opened; flight = c.flight_after-self-inside.result; closed = c.self.inside.closed } in
     subst (λ (o : Tables). (h : History) (e : Entry) (x : Plan) → x.order ≡ c.args.step.order → StandsAll h o → is_closed (e ∷ h) ≡ false → Legal o.lines (e ∷ h) → IsLegOf e.call (message_of h e.call) x → StandsAll (e ∷ h) now) c.self.view_is
-    (λ h e x same all run legal leg. commit_leg h e v x c.args.step c.commit.new.self c.flight_after-self-inside.result all run legal leg same (subst (λ (o : Tables). IsPlannedIn o.banks c.args.step) (sym c.self.view_is) c.requires) c.commit.ensures
+    (λ h e x same all run legal leg. commit_leg h e v x c.args.step c.commit.new.self c.flight_after-self-inside.result all run legal leg same (subst (λ (o : Tables). IsPlannedIn o.banks c.args.step) (sym c.self.view_is) c.requires) c.commit.ensures.stands
     (λ n few moves. c.flight_after-self-inside.ensures n few (subst (λ m. FlightMoves m c.self.inside.flight n) (sym c.moved.ensures) moves)))
