@@ -1,7 +1,7 @@
 -- The rows of the sixteen shards, of which those of one change.
 use Rattle.std.proofs.Common.{◌≡◌, ℕ, zero, suc, ◌<◌, ◌≤◌, ◌+◌, Bool, true, false, List, [], ◌∷◌, ◌++◌, length, map, set, get_or, take, Option, Some, None, refl, sym, ap, subst, ◌∙◌, arith, eqb-true}
 use Rattle.std.specs.Prelude.{◌==◌, slice_get, IsSomeAnd}
-use Rattle.std.specs.List.{AllByRecursion, flat_map}
+use Rattle.std.specs.List.{flat_map}
 use Rattle.std.proofs.lemmas.Bool.{both_ways}
 use Rattle.std.proofs.lemmas.Grind.{flat_map-append}
 use Rattle.std.proofs.lemmas.List.{append-nil, take_more}
@@ -12,7 +12,6 @@ use Rattle.upi_words.specs.Prelude.{Sent, Setup}
 use Rattle.upi_model.specs.Own.{Deed}
 use Rattle.upi_model.proofs.Own.{same_is}
 use Rattle.account_shard.specs.Closing.{numbers_to}
-use Rattle.bank_shards.proofs.Places.{map_at}
 use Rattle.txn_row.specs.Rows.{Course}
 use Rattle.txn_shard.specs.Rows.{Shard, rows_return}
 use Rattle.txn_shard.specs.Shard.{Stands, IsPlanned, rows_after}

@@ -1,6 +1,6 @@
 -- What is due by the rows of all shards, sorted, is the list of what is due.
-use Rattle.std.proofs.Common.{◌≡◌, ◌≢◌, ℕ, zero, suc, ◌<◌, ◌≤◌, ◌+◌, Bool, true, false, cond, List, [], ◌∷◌, ◌++◌, length, get_or, map, Option, Some, None, refl, sym, ap, subst, ◌∙◌, arith, eqb-true, inl, inr, Ordering, Less, Equal, Greater}
-use Rattle.std.specs.Prelude.{◌==◌, ◌&&◌, ◌||◌, nat_lt, slice_get, Contains, IsPermutation, IsSorted}
+use Rattle.std.proofs.Common.{◌≡◌, ℕ, zero, suc, ◌<◌, ◌≤◌, ◌+◌, Bool, true, false, cond, List, [], ◌∷◌, ◌++◌, length, get_or, map, Option, Some, None, refl, sym, ap, subst, ◌∙◌, arith, eqb-true, inl, inr, Ordering, Less, Equal, Greater}
+use Rattle.std.specs.Prelude.{◌==◌, ◌&&◌, ◌||◌, nat_lt, Contains, IsPermutation, IsSorted}
 use Rattle.std.specs.List.{AllByRecursion, AllPairs, IsDistinct}
 use Rattle.std.specs.Option.{option_and_then, option_or}
 use Rattle.std.specs.Ordering.{nat_cmp, is_lt, ordering_reverse, ordering_then}
@@ -15,15 +15,14 @@ use Rattle.std.proofs.lemmas.List.Sorted.{Contains-permutation, IsPermutation-ma
 use Rattle.std.proofs.lemmas.Map.Keys.{IsDistinct-IsPermutation}
 use Rattle.std.proofs.lemmas.Map.Made.{IsDistinct-from_AllPairs}
 use Rattle.std.proofs.lemmas.Slice.Eq.{bytes_eq-Decides}
-use Rattle.upi_base.specs.Lists.{pick, when}
+use Rattle.upi_base.specs.Lists.{when}
 use Rattle.upi_base.specs.Shards.{txn_shard}
 use Rattle.upi_base.proofs.Hashes.{shard_after_is}
 use Rattle.upi_base.proofs.Options.{some_same}
-use Rattle.upi_words.specs.Prelude.{Opening, Owner, Setup, History, Text, Legal, is_closed}
+use Rattle.upi_words.specs.Prelude.{Setup, History, Text, Legal, is_closed}
 use Rattle.upi_model.specs.DueLaws.{IsDueBy}
 use Rattle.upi_model.specs.DueList.{DueTxn, due_before, due_list}
 use Rattle.upi_model.specs.Dues.{due}
-use Rattle.upi_model.specs.Own.{own_deeds}
 use Rattle.upi_model.specs.Places.{has_id}
 use Rattle.upi_model.specs.Standing.{due_on, standing, sendings}
 use Rattle.upi_model.proofs.DueOrder.{due_list_laws}
@@ -31,7 +30,7 @@ use Rattle.upi_model.proofs.Own.{own_standing_is}
 use Rattle.upi_laws.proofs.Local.{own_sendings_is}
 use Rattle.expiry_clock.specs.Dues.{due_cmp}
 use Rattle.txn_row.specs.Rows.{Course, due_in}
-use Rattle.txn_shard.specs.Rows.{IsDueOf, due_at, row_at, row_if}
+use Rattle.txn_shard.specs.Rows.{IsDueOf, due_at, row_at}
 use Rattle.txn_shard.specs.Shard.{Stands, IsHere}
 use Rattle.txn_shard.proofs.Gathered.{shard_laws}
 use Rattle.txn_shards.specs.Txns.{StandTxns, Appends, entries_in}

@@ -1,6 +1,6 @@
 -- Which transactions are opened, entry by entry, and the row of each.
 use Rattle.std.proofs.Common.{◌≡◌, ℕ, ◌<◌, ◌+◌, Bool, true, false, cond, List, [], ◌∷◌, ◌++◌, length, map, Option, Some, None, refl, sym, ap, subst, ◌∙◌, arith, length-append}
-use Rattle.std.specs.Prelude.{◌==◌, ◌&&◌, ◌||◌, not, if◌then◌else◌, slice_get}
+use Rattle.std.specs.Prelude.{◌&&◌, ◌||◌, not, if◌then◌else◌}
 use Rattle.std.specs.List.{filter}
 use Rattle.std.specs.Option.{option_and_then, option_map}
 use Rattle.std.proofs.lemmas.Bool.{both_ways, or_parts}
@@ -9,9 +9,9 @@ use Rattle.std.proofs.lemmas.List.Elements.{filter-append}
 use Rattle.upi_base.specs.Lists.{joined, pick}
 use Rattle.upi_base.specs.Shards.{txn_shard}
 use Rattle.upi_base.proofs.Hashes.{shard_after_is}
-use Rattle.upi_words.specs.Prelude.{Call, Entry, Event, Opening, Owner, Setup, History, Text, Legal, event_of, is_closed, opened, opening}
+use Rattle.upi_words.specs.Prelude.{Entry, Opening, Owner, Setup, History, Text, Legal, event_of, is_closed, opened, opening}
 use Rattle.upi_model.specs.History.{is_close}
-use Rattle.upi_model.specs.Own.{Deed, deeds, own_deeds, own_opened, own_standing}
+use Rattle.upi_model.specs.Own.{Deed, deeds, own_deeds, own_opened}
 use Rattle.upi_model.specs.Owners.{message_of, own, owner_of, same_owner}
 use Rattle.upi_model.specs.Places.{if_of, in_shard, opens}
 use Rattle.upi_model.specs.Standing.{Standing}

@@ -1,12 +1,12 @@
 -- Outcomes of transactions by their shards' rows, before a Close and after it.
-use Rattle.std.proofs.Common.{◌≡◌, ℕ, Bool, true, false, cond, List, [], ◌∷◌, Option, Some, refl, sym, ap, subst, ◌∙◌}
+use Rattle.std.proofs.Common.{◌≡◌, Bool, true, false, cond, List, [], ◌∷◌, refl, sym, ap, subst, ◌∙◌}
 use Rattle.std.specs.Prelude.{◌||◌}
 use Rattle.std.proofs.lemmas.Bool.{both_ways}
 use Rattle.upi_base.specs.Shards.{txn_shard}
-use Rattle.upi_words.specs.Prelude.{Call, Entry, Event, Outcome, Owner, Setup, History, Text, event_of, is_closed, outcome_of}
+use Rattle.upi_words.specs.Prelude.{Owner, Setup, History, Text, event_of, is_closed, outcome_of}
 use Rattle.upi_model.specs.History.{is_close}
-use Rattle.upi_model.specs.Own.{Deed, own_deeds, own_standing}
-use Rattle.upi_model.specs.Standing.{Standing, advance, outcome_on, shard_opened, standing}
+use Rattle.upi_model.specs.Own.{Deed}
+use Rattle.upi_model.specs.Standing.{advance, outcome_on, shard_opened}
 use Rattle.upi_model.proofs.Gathered.{standing_laws, step_laws}
 use Rattle.upi_model.proofs.Own.{own_standing_is}
 use Rattle.bank_shards.proofs.Histories.{closing}

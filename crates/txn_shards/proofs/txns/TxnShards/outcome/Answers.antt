@@ -1,5 +1,4 @@
-use Rattle.std.proofs.Common.{ap, ◌∙◌}
-use Rattle.upi_base.specs.Shards.{txn_shard}
+use Rattle.std.proofs.Common.{◌∙◌}
 use Rattle.txn_shards.proofs.Calls.{IsRead, stands_here}
 use Rattle.txn_shards.proofs.Outcomes.{outcome_open, outcome_shut}
 use Rattle.txn_shards.proofs.txns.TxnShards.outcome.Goals as goal

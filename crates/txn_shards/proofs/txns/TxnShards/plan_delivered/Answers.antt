@@ -1,7 +1,6 @@
-use Rattle.std.proofs.Common.{None, Some, ap, ◌∙◌, sym}
-use Rattle.upi_words.specs.Prelude.{Call, Owner}
+use Rattle.std.proofs.Common.{Some, ap, ◌∙◌}
+use Rattle.upi_words.specs.Prelude.{Call}
 use Rattle.upi_base.specs.Shards.{txn_shard}
-use Rattle.upi_model.specs.Owners.{body_txn, delivered_owner}
 use Rattle.txn_shards.proofs.Calls.{IsRead, delivered_is, rows_stay, step_makes, step_planned}
 use Rattle.txn_shards.proofs.txns.TxnShards.plan_delivered.Goals as goal
 

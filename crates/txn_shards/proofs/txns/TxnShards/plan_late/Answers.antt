@@ -1,7 +1,5 @@
-use Rattle.std.proofs.Common.{ℕ, None, Some, ap, ◌∙◌, sym}
+use Rattle.std.proofs.Common.{ℕ, None, ap, sym}
 use Rattle.upi_words.specs.Prelude.{Call, Owner}
-use Rattle.upi_base.specs.Shards.{txn_shard}
-use Rattle.upi_model.specs.Owners.{body_txn, delivered_owner}
 use Rattle.txn_shards.proofs.Calls.{IsRead, rows_stay, step_makes, step_planned}
 use Rattle.txn_shards.proofs.txns.TxnShards.plan_late.Goals as goal
 
