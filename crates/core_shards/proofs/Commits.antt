@@ -12,7 +12,7 @@ use Rattle.upi_model.specs.Accounts.{order_of}
 use Rattle.upi_model.specs.DueList.{due_among, insert_due}
 use Rattle.upi_model.specs.Dues.{acknowledged, confirms, due, due_by, due_confirm, last_sent, orders}
 use Rattle.upi_model.specs.History.{is_close, message_at, sent}
-use Rattle.upi_model.specs.Legal.{has_room, may_come, names_known}
+use Rattle.upi_model.specs.Legal.{has_room, may_come}
 use Rattle.upi_model.specs.Owners.{message_of, owner_of}
 use Rattle.upi_model.specs.Places.{cause_by}
 use Rattle.upi_laws.proofs.Accounts.{given_owner}

@@ -1,13 +1,13 @@
 -- A transaction as the report sees it, by what the tables say of it.
 use Rattle.std.proofs.Common.{◌≡◌, ℕ, zero, suc, ◌+◌, Bool, true, List, [], ◌∷◌, map, take, Option, Some, None, refl, sym, ap, subst, ◌∙◌, arith}
-use Rattle.std.specs.Prelude.{is_some, slice_get}
+use Rattle.std.specs.Prelude.{slice_get}
 use Rattle.std.specs.List.{AllByRecursion}
 use Rattle.std.specs.Option.{option_map}
 use Rattle.std.proofs.lemmas.Option.{slice_get-map}
 use Rattle.upi_base.specs.Lists.{joined}
 use Rattle.upi_base.specs.Setup.{account_at, listing_at, is_setup}
 use Rattle.upi_base.proofs.Options.{some_same}
-use Rattle.upi_words.specs.Prelude.{Account, AccountRef, Answer, Leg, Listing, Opening, Outcome, PayReq, Setup, History, Text, Legal, TxnRow, opened, opening, outcome_of}
+use Rattle.upi_words.specs.Prelude.{Account, AccountRef, Answer, Leg, Listing, Opening, Outcome, PayReq, Setup, History, Text, TxnRow, opened, opening, outcome_of}
 use Rattle.upi_model.specs.Postings.{answer, is_posted, posted_at}
 use Rattle.upi_model.specs.Settlement.{bank_at, bank_of, txn_row}
 use Rattle.upi_model.specs.Structure.{IsAllowed}

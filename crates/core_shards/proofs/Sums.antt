@@ -1,5 +1,5 @@
 -- The money in flight is what the accounts opened with, less what they have.
-use Rattle.std.proofs.Common.{◌≡◌, ℕ, zero, suc, ◌+◌, ◌-◌, ◌<◌, ◌≤◌, true, List, [], ◌∷◌, ◌++◌, length, get_or, take, refl, sym, ap, subst, ◌∙◌, arith, append_assoc}
+use Rattle.std.proofs.Common.{◌≡◌, ℕ, zero, suc, ◌+◌, ◌-◌, ◌<◌, true, List, [], ◌∷◌, ◌++◌, length, get_or, take, refl, sym, ap, subst, ◌∙◌, arith, append_assoc}
 use Rattle.std.specs.List.{AllByRecursion, sum_by}
 use Rattle.std.proofs.lemmas.List.{append-nil}
 use Rattle.std.proofs.lemmas.List.Sums.{sum_by-append}
@@ -12,13 +12,14 @@ accounts_append : (S T : Setup) → accounts (S ++ T) ≡ accounts S ++ accounts
 accounts_append [] T = refl
 accounts_append (l ∷ ls) T = ap (λ (rest : List Account). line_accounts l ++ rest) (accounts_append ls T) ∙ sym (append_assoc (line_accounts l) (accounts ls) (accounts T))
 
--- the sum over the accounts of one line more
+-- the accounts of one line more
+pub accounts_line : (lines : Setup) (i : ℕ) (l : SetupLine) → i < length lines → l ≡ get_or lines i l → accounts (take (i + 1) lines) ≡ accounts (take i lines) ++ line_accounts l
+accounts_line lines i l lt is =
+    ap accounts (front_more lines i l lt is) ∙ accounts_append (take i lines) (l ∷ []) ∙ ap (λ (rest : List Account). accounts (take i lines) ++ rest) (append-nil (line_accounts l))
+
+-- and a sum over them
 pub sum_line : (f : Account → ℕ) (lines : Setup) (i : ℕ) (l : SetupLine) → i < length lines → l ≡ get_or lines i l → sum_by f (accounts (take (i + 1) lines)) ≡ sum_by f (accounts (take i lines)) + sum_by f (line_accounts l)
-sum_line f lines i l lt is =
-    ap (λ (S : Setup). sum_by f (accounts S)) (front_more lines i l lt is)
-    ∙ ap (sum_by f) (accounts_append (take i lines) (l ∷ []))
-    ∙ sum_by-append f (accounts (take i lines)) (line_accounts l ++ [])
-    ∙ ap (λ (rest : List Account). sum_by f (accounts (take i lines)) + sum_by f rest) (append-nil (line_accounts l))
+sum_line f lines i l lt is = ap (sum_by f) (accounts_line lines i l lt is) ∙ sum_by-append f (accounts (take i lines)) (line_accounts l)
 
 all_front : (P : Account → Type 0) (xs ys : List Account) → AllByRecursion P (xs ++ ys) → AllByRecursion P xs
 all_front P [] ys all = tt

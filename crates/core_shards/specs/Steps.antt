@@ -9,7 +9,7 @@ use Rattle.account_shard.specs.Shard.{IsAnswer, Plan}
 use Rattle.bank_shards.specs.Banks.{CanPostIn, CanTake, IsPlannedIn as IsBankStep}
 use Rattle.txn_row.specs.Rows.{Course}
 use Rattle.txn_shard.specs.Rows.{Shard}
-use Rattle.txn_shards.specs.Txns.{MakesIn, Placed, IsPlannedIn as IsTxnStep, all_return, rows_all}
+use Rattle.txn_shards.specs.Txns.{MakesIn, IsPlannedIn as IsTxnStep, all_return, rows_all}
 use Rattle.core_shards.specs.Tables.{Tables}
 use Rattle.core_shards.specs.declared.step.{Step.Step}
 

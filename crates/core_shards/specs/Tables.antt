@@ -1,7 +1,7 @@
 -- What a contract sees of the sixteen and sixteen shards, and for which history they stand.
 use Rattle.std.specs.Prelude.{ℕ, ◌≡◌, true, Bool, List, map}
 use Rattle.upi_base.specs.Setup.{is_setup}
-use Rattle.upi_words.specs.Prelude.{Opening, Setup, History, Text, Legal, flight, is_closed, opened}
+use Rattle.upi_words.specs.Prelude.{Account, AccountRef, Setup, History, Text, Legal, balance, flight, is_closed, opened}
 use Rattle.leg_post.specs.Posts.{Ledger}
 use Rattle.bank_shards.specs.Banks.{StandAll, without_room}
 use Rattle.bank_shards.specs.Histories.{orders_in}
@@ -41,3 +41,7 @@ pub record IsSame (old new : Tables) : Type 0 where
   pub names : new.opened.names ≡ old.opened.names
   pub flight : new.flight ≡ old.flight
   pub closed : new.closed ≡ old.closed
+
+-- an account, and what it has
+abbrev pub with_balance : Setup → History → Account → AccountRef × ℕ
+with_balance S h a = (a.ac, balance S a h)

@@ -8,6 +8,7 @@
 
 mod close;
 mod commit;
+mod held;
 pub mod laws;
 mod money;
 mod opened;

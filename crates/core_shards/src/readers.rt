@@ -1,12 +1,14 @@
 //! What the tables say.
 ghost use Rattle.std.specs.Prelude.{◌≡◌, IfOk};
-ghost use Rattle.upi_words.specs.Prelude.{History, outcome_of};
+ghost use Rattle.std.specs.Option.{option_copied};
+ghost use Rattle.upi_words.specs.Prelude.{History, opening, outcome_of};
 ghost use Rattle.upi_model.specs.DueList.{due_list};
 ghost use Rattle.bank_shards.specs.Histories.{balance_named};
 ghost use Rattle.core_shards.specs.Tables.{StandsAll};
 
 use crate::tables::CoreShards;
 use upi_base::{AccountRef, NoMemory, Outcome, TxnId};
+use upi_model::Opening;
 use vpa_directory::Directory;
 
 impl CoreShards {
@@ -36,6 +38,16 @@ impl CoreShards {
         ensures { (h : History) → StandsAll h self.now → result ≡ outcome_of self.now.lines txn.now h }
     {
         self.txns.outcome(txn, self.closed)
+    }
+
+    /// How a transaction was opened, if it was.
+    pub fn opening(&self, txn: &TxnId) -> Option<&Opening>
+        ensures { (h : History) → StandsAll h self.now → option_copied result ≡ opening self.now.lines txn.now h }
+    {
+        match self.txns.find(txn) {
+            Some(row) => Some(row.opening()),
+            None => None,
+        }
     }
 
     /// What an account has, in paise; `None` exactly where the setup has no such account.

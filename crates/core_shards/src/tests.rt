@@ -4,8 +4,8 @@ use std::alloc::Global;
 use std::hash::RandomState;
 use std::test::Fail;
 use upi_base::{
-    AccountRef, Addr, BankCode, Boxed, Call, Code, Head, Input, Kind, Message, Moment, MsgId, OrgId,
-    Outcome, Paise, PayReq, Policy, PspName, Sent, Setup, SetupLine, SetupLines, TxnId, Ver,
+    AccountRef, Addr, BankCode, Boxed, Call, Code, Head, Input, Kind, Message, Moment, MsgId,
+    OrgId, Outcome, Paise, PayReq, Policy, PspName, Sent, Setup, SetupLine, SetupLines, TxnId, Ver,
 };
 use vpa_directory::Directory;
 

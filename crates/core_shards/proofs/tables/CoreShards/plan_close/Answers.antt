@@ -1,8 +1,7 @@
-use Rattle.std.proofs.Common.{List, length, ap, ◌∙◌, subst}
-use Rattle.std.specs.Prelude.{ℕ}
+use Rattle.std.proofs.Common.{List, length, subst}
 use Rattle.upi_words.specs.Prelude.{Sent}
 use Rattle.bank_shards.specs.Banks.{HasRoom}
-use Rattle.core_shards.specs.Tables.{IsSame, Tables}
+use Rattle.core_shards.specs.Tables.{Tables}
 use Rattle.core_shards.proofs.Commits.{banks_same, can_close, same_stands}
 use Rattle.core_shards.proofs.tables.CoreShards.plan_close.Goals as goal
 

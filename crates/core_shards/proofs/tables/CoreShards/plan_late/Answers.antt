@@ -1,10 +1,10 @@
-use Rattle.std.proofs.Common.{ℕ, Option, Some, None, refl, sym, ap, subst}
-use Rattle.upi_words.specs.Prelude.{Call, Sent}
+use Rattle.std.proofs.Common.{None, refl, ap, subst}
+use Rattle.upi_words.specs.Prelude.{Call}
 use Rattle.txn_shards.specs.Txns.{MakesIn, rows_all}
 use Rattle.core_shards.specs.declared.step.{Step.Step}
 use Rattle.core_shards.specs.Steps.{IsStepOf}
-use Rattle.core_shards.specs.Tables.{StandsAll, Tables}
-use Rattle.core_shards.proofs.Commits.{txns_same, heard_of, late_of, txn_defined}
+use Rattle.core_shards.specs.Tables.{Tables}
+use Rattle.core_shards.proofs.Commits.{txns_same, late_of, txn_defined}
 use Rattle.core_shards.proofs.tables.CoreShards.plan_late.Goals as goal
 
 pub returns-in_err-step-clause-same : goal.returns-in_err-step-clause-same

@@ -1,14 +1,12 @@
 use Rattle.std.proofs.Common.{◌≡◌, ℕ, false, Some, refl, sym, ap, subst}
 use Rattle.std.specs.Prelude.{IsSomeAnd}
-use Rattle.upi_words.specs.Prelude.{Call, Order, Sent, Setup, History, Legal, is_closed}
+use Rattle.upi_words.specs.Prelude.{Order, Setup, History, Legal, is_closed}
 use Rattle.upi_model.specs.Accounts.{order_of}
 use Rattle.upi_model.specs.History.{message_at}
 use Rattle.account_shard.specs.Shard.{IsPlanOf}
 use Rattle.bank_shards.specs.Banks.{StandAll, CanPostIn}
 use Rattle.bank_shards.specs.Histories.{orders_in}
-use Rattle.core_shards.specs.declared.step.{Step.Step}
-use Rattle.core_shards.specs.Steps.{IsStepOf}
-use Rattle.core_shards.specs.Tables.{StandsAll, Tables}
+use Rattle.core_shards.specs.Tables.{Tables}
 use Rattle.core_shards.proofs.Commits.{banks_same, leg_defined}
 use Rattle.core_shards.proofs.tables.CoreShards.plan_order.Goals as goal
 

@@ -1,4 +1,4 @@
-use Rattle.std.proofs.Common.{◌≡◌, List, Some, ap, sym, subst, ◌∙◌}
+use Rattle.std.proofs.Common.{◌≡◌, Some, ap, sym, subst, ◌∙◌}
 use Rattle.upi_words.specs.Prelude.{Opening, Text, opening}
 use Rattle.upi_model.proofs.Gathered.{opening_laws}
 use Rattle.txn_shards.specs.Txns.{row_in, rows_all}

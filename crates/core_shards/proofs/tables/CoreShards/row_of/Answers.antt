@@ -1,7 +1,6 @@
-use Rattle.std.proofs.Common.{◌≡◌, List, Some, ap, sym, subst, ◌∙◌}
-use Rattle.upi_words.specs.Prelude.{AccountRef, Leg}
+use Rattle.std.proofs.Common.{◌≡◌, Some, ap, sym, subst, ◌∙◌}
+use Rattle.upi_words.specs.Prelude.{Leg}
 use Rattle.upi_model.specs.Postings.{answer, is_posted}
-use Rattle.leg_post.specs.Posts.{Ledger}
 use Rattle.bank_shards.specs.Banks.{StandAll}
 use Rattle.bank_shards.specs.Histories.{orders_in}
 use Rattle.core_shards.specs.Tables.{Tables}
