@@ -1,5 +1,5 @@
 //! Plans: each call by the shard that owns it.
-ghost use Rattle.std.specs.Prelude.{◌≡◌, ◌<◌, ℕ, Option, Some, None, false, is_some, IfOk, IsSomeAnd};
+ghost use Rattle.std.specs.Prelude.{◌≡◌, ◌<◌, ℕ, Option, Some, None, true, false, is_some, IfOk, IsSomeAnd};
 ghost use Rattle.std.specs.Option.{option_copied};
 ghost use Rattle.upi_words.specs.Prelude.{Call as ACall, Sent as ASent, History, is_closed};
 ghost use Rattle.upi_model.specs.Accounts.{order_of};
@@ -104,6 +104,39 @@ impl CoreShards {
         ensures defined { (h : History) (n now : ℕ) → StandsAll h self.now → is_closed h ≡ false → message_of h (ACall.Lose n) ≡ Some message.now → IsDefined self.now.lines h (ACall.Lose n) now result }
     {
         Step::Txn(self.txns.plan_lost(message))
+    }
+
+    // Whether the delivery of a message can be planned.
+    fn can_deliver(&self, message: &Sent) -> bool
+        ensures then { result ≡ true → CanOrder self.now.banks (order_of message.now.body) }
+        ensures only { CanOrder self.now.banks (order_of message.now.body) → result ≡ true }
+    {
+        if is_order(message) {
+            self.banks.can_post(message)
+        } else {
+            true
+        }
+    }
+
+    /// Whether a call can be planned with this message: it is no Close, it has the message that it
+    /// names, and an order can be posted.
+    pub fn can_plan(&self, call: &Call, message: Option<&Sent>) -> bool
+        ensures then { result ≡ true → CanPlan self.now.banks call.now (option_copied message) }
+        ensures only { CanPlan self.now.banks call.now (option_copied message) → result ≡ true }
+    {
+        match call {
+            Call::Hear {
+                psp: _psp,
+                input: _input,
+            } => true,
+            Call::Late(_txn) => true,
+            Call::Deliver(_n) => match message {
+                Some(message) => self.can_deliver(message),
+                None => false,
+            },
+            Call::Lose(_n) => message.is_some(),
+            Call::Close => false,
+        }
     }
 
     // Plans a call by the shard that owns it.

