@@ -121,8 +121,8 @@ impl CoreShards {
     /// Whether a call can be planned with this message: it is no Close, it has the message that it
     /// names, and an order can be posted.
     pub fn can_plan(&self, call: &Call, message: Option<&Sent>) -> bool
-        ensures then { result ≡ true → CanPlan self.now.banks call.now (option_copied message) }
-        ensures only { CanPlan self.now.banks call.now (option_copied message) → result ≡ true }
+        ensures then { result ≡ true → CanPlan self.now.banks call.now (option_copied message.entry) }
+        ensures only { CanPlan self.now.banks call.now (option_copied message.entry) → result ≡ true }
     {
         match call {
             Call::Hear {

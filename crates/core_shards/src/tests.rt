@@ -7,8 +7,8 @@ use std::alloc::Global;
 use std::hash::RandomState;
 use std::test::Fail;
 use upi_base::{
-    AccountRef, Addr, BankCode, Boxed, Call, Head, Input, Kind, Message, Moment, MsgId,
-    OrgId, Outcome, Paise, PayReq, Policy, PspName, Sent, Setup, SetupLine, SetupLines, TxnId, Ver,
+    AccountRef, Addr, BankCode, Boxed, Call, Head, Input, Kind, Message, Moment, MsgId, OrgId,
+    Outcome, Paise, PayReq, Policy, PspName, Sent, Setup, SetupLine, SetupLines, TxnId, Ver,
 };
 use vpa_directory::Directory;
 
@@ -174,19 +174,19 @@ fn one_payment_is_made_and_another_runs(rt: HostRuntime) -> Result<(), Fail> {
 }
 
 // How many reversals a Close makes arrive, and what is held after it.
-fn closed(core: &mut CoreShards) -> Option<(usize, (u64, u64, u128))>
+fn closed(core: &mut CoreShards) -> Result<(usize, (u64, u64, u128)), Fail>
     requires { StandsAll [] core.old }
 {
-    let returns = core.plan_close().ok()?;
+    let returns = core.plan_close()?;
     let many = returns.len();
     core.commit_close(returns);
-    Some((many, held(core)?))
+    Ok((many, held(core).ok_or("what is held")?))
 }
 
 #[test]
 fn a_close_without_payments_returns_nothing(rt: HostRuntime) -> Result<(), Fail> {
     let mut core = core(&rt)?;
-    let ended = closed(&mut core);
-    assert!(rt; ended == Some((0, (10_000, 500, 0))));
+    let ended = closed(&mut core)?;
+    assert!(rt; ended == (0, (10_000, 500, 0)));
     Ok(())
 }
