@@ -1,14 +1,15 @@
 //! Payments of 30.00, delivered message by message, and a Close.
 ghost use Rattle.std.specs.Prelude.{[], IfOk};
+ghost use Rattle.core_shards.specs.Steps.{IsStep};
 ghost use Rattle.core_shards.specs.Tables.{StandsAll};
 
-use crate::CoreShards;
+use crate::{CoreShards, Step};
 use std::alloc::Global;
 use std::hash::RandomState;
 use std::test::Fail;
 use upi_base::{
     AccountRef, Addr, BankCode, Boxed, Call, Head, Input, Kind, Message, Moment, MsgId, OrgId,
-    Outcome, Paise, PayReq, Policy, PspName, Sent, Setup, SetupLine, SetupLines, TxnId, Ver,
+    Outcome, Paise, PayReq, Policy, PspName, Sent, SentList, Setup, SetupLine, SetupLines, TxnId, Ver,
 };
 use vpa_directory::Directory;
 
@@ -88,20 +89,38 @@ fn payment(alloc: Global, txn: &[u8]) -> Option<Call> {
     Some(Call::Hear { psp, input })
 }
 
+// The message that a call delivers, if it was sent.
+fn message_of<'a>(sent: &'a [Sent], call: &Call) -> Option<&'a Sent> {
+    match call {
+        Call::Deliver(n) => sent.get((*n as usize).checked_sub(1)?),
+        _ => None,
+    }
+}
+
+// Commits a step, and gives its messages.
+fn commit(core: &mut CoreShards, step: Step) -> SentList
+    requires { IsStep core.old step }
+{
+    let mut step = step;
+    let sent = step.take_sent();
+    core.commit(step);
+    sent
+}
+
 // A call on the tables, whose messages go behind those that were sent.
 fn call(core: &mut CoreShards, sent: &mut Vec<Sent>, call: &Call) -> Option<()> {
-    let message = match call {
-        Call::Deliver(n) => Some(sent.get((*n as usize).checked_sub(1)?)?),
-        _ => None,
-    };
+    let now = Moment::of(START)?;
+    let message = message_of(sent, call);
     if !core.can_plan(call, message) {
         return None;
     }
-    let mut step = core.plan(call, message, Moment::of(START)?).ok()?;
-    let mut more = step.take_sent().into_items();
-    core.commit(step);
-    sent.append(&mut more).ok()?;
-    Some(())
+    match core.plan(call, message, now) {
+        Ok(step) => {
+            let mut more = commit(core, step).into_items();
+            sent.append(&mut more).ok()
+        }
+        Err(_) => None,
+    }
 }
 
 // What Ann and Bob have, and the money in flight.
