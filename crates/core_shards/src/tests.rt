@@ -9,7 +9,8 @@ use std::hash::RandomState;
 use std::test::Fail;
 use upi_base::{
     AccountRef, Addr, BankCode, Boxed, Call, Head, Input, Kind, Message, Moment, MsgId, OrgId,
-    Outcome, Paise, PayReq, Policy, PspName, Sent, SentList, Setup, SetupLine, SetupLines, TxnId, Ver,
+    Outcome, Paise, PayReq, Policy, PspName, Sent, SentList, Setup, SetupLine, SetupLines, TxnId,
+    Ver,
 };
 use vpa_directory::Directory;
 
