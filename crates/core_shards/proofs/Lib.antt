@@ -1,0 +1,4 @@
+pub mod Commits
+pub mod Sums
+pub mod Report
+pub mod Gathered
