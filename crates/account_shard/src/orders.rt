@@ -23,7 +23,7 @@ pub(crate) fn order_in(message: &Sent) -> Option<Order>
             txn: txn.copy(),
             its_leg: *leg,
             amount: *amount,
-            ac: ac.copy(),
+            ac: ac.get().copy(),
         }),
         _ => None,
     }

@@ -8,7 +8,7 @@ use std::hash::RandomState;
 use std::test::Fail;
 use upi_base::limits::MAX_AMOUNT;
 use upi_base::{
-    Account, AccountRef, Addr, Answer, Body, Code, Leg, Paise, Party, Reply, Sent, TxnId, Ver,
+    Account, AccountRef, Addr, Answer, Body, Boxed, Code, Leg, Paise, Party, Reply, Sent, TxnId, Ver,
 };
 
 // The number of a transaction, the leg, the number of an account and the amount of an order; how it
@@ -48,7 +48,7 @@ fn account(number: u8) -> Option<AccountRef> {
     AccountRef::read(&[b'A', b'A', b'A', b'A', b'/', number % 10 + b'0'])
 }
 
-fn order(txn: u8, leg: Leg, ac: u8, amount: u64) -> Result<Sent, Fail> {
+fn order(alloc: Global, txn: u8, leg: Leg, ac: u8, amount: u64) -> Result<Sent, Fail> {
     let ac = account(ac).ok_or("an account")?;
     Ok(Sent {
         from: Party::Switch,
@@ -57,8 +57,8 @@ fn order(txn: u8, leg: Leg, ac: u8, amount: u64) -> Result<Sent, Fail> {
             txn: TxnId::read(&[b'T', txn % 10 + b'0']).ok_or("a name")?,
             leg,
             amount: Paise::of(amount).ok_or("a sum")?,
-            ac,
-            addr: Addr::read(b"ann@alpha").ok_or("an address")?,
+            ac: Boxed::new(alloc, ac)?,
+            addr: Boxed::new(alloc, Addr::read(b"ann@alpha").ok_or("an address")?)?,
             extra: None,
         },
         ver: Ver::One,
@@ -83,9 +83,9 @@ fn open(shard: &mut AccountShard, number: u8, opening: u64) -> Result<(), Fail>
 }
 
 // Whether an order is planned and committed as it must be.
-fn is_played(shard: &mut AccountShard, case: &Case) -> Result<bool, Fail> {
+fn is_played(alloc: Global, shard: &mut AccountShard, case: &Case) -> Result<bool, Fail> {
     let (txn, leg, ac, amount, answer, moves, wanted) = *case;
-    let message = order(txn, leg, ac, amount)?;
+    let message = order(alloc, txn, leg, ac, amount)?;
     let ac = account(ac).ok_or("an account")?;
     if !shard.can_post(&message) {
         return Ok(false);
@@ -111,7 +111,7 @@ fn shard(rt: &HostRuntime) -> Result<AccountShard, Fail> {
 fn orders_are_planned_and_committed(rt: HostRuntime) -> Result<(), Fail> {
     let mut shard = shard(&rt)?;
     for case in &CASES {
-        assert!(rt; is_played(&mut shard, case)?);
+        assert!(rt; is_played(rt.alloc(), &mut shard, case)?);
     }
     assert!(rt; shard.kept() == 6);
     Ok(())
@@ -119,12 +119,13 @@ fn orders_are_planned_and_committed(rt: HostRuntime) -> Result<(), Fail> {
 
 // What an order moves where it arrives at a Close.
 fn arrived(
+    alloc: Global,
     shard: &mut AccountShard,
     txn: u8,
     leg: Leg,
     amount: u64,
 ) -> Result<Option<Paise>, Fail> {
-    let message = order(txn, leg, 0, amount)?;
+    let message = order(alloc, txn, leg, 0, amount)?;
     shard.reserve(1)?;
     if !shard.can_post(&message) {
         return Err(Fail::from("it can't be posted"));
@@ -135,10 +136,10 @@ fn arrived(
 #[test]
 fn a_reversal_arrives_once(rt: HostRuntime) -> Result<(), Fail> {
     let mut shard = shard(&rt)?;
-    let debited = arrived(&mut shard, 1, Leg::Debit, 3_000)?;
-    let returned = arrived(&mut shard, 1, Leg::Reversal, 3_000)?;
-    let again = arrived(&mut shard, 1, Leg::Reversal, 3_000)?;
-    let nothing = arrived(&mut shard, 2, Leg::Reversal, 3_000)?;
+    let debited = arrived(rt.alloc(), &mut shard, 1, Leg::Debit, 3_000)?;
+    let returned = arrived(rt.alloc(), &mut shard, 1, Leg::Reversal, 3_000)?;
+    let again = arrived(rt.alloc(), &mut shard, 1, Leg::Reversal, 3_000)?;
+    let nothing = arrived(rt.alloc(), &mut shard, 2, Leg::Reversal, 3_000)?;
     assert!(rt; debited.is_some() && returned == debited && again.is_none() && nothing.is_none());
     let ac = account(0).ok_or("an account")?;
     assert!(rt; shard.balance(&ac) == Some(10_000));

@@ -20,7 +20,7 @@ pub(crate) fn place_of(message: &Sent) -> usize
             ac,
             addr: _addr,
             extra: _extra,
-        } => account_shard(ac) as usize,
+        } => account_shard(ac.get()) as usize,
         _ => 0,
     }
 }

@@ -3,7 +3,7 @@ use std::alloc::Global;
 use std::hash::RandomState;
 use std::test::Fail;
 use upi_base::{
-    AccountRef, Addr, Answer, BankCode, Body, Code, Leg, Moment, Paise, Party, Reply, Sent, Setup,
+    AccountRef, Addr, Answer, BankCode, Body, Boxed, Code, Leg, Moment, Paise, Party, Reply, Sent, Setup,
     SetupLine, SetupLines, TxnId, Ver,
 };
 use vpa_directory::Directory;
@@ -28,7 +28,7 @@ fn account(number: u8) -> Option<AccountRef> {
     AccountRef::read(&[b'A', b'A', b'A', b'A', b'/', number % 10 + b'0'])
 }
 
-fn order(txn: u8, leg: Leg, ac: u8, amount: u64) -> Option<Sent> {
+fn order(alloc: Global, txn: u8, leg: Leg, ac: u8, amount: u64) -> Option<Sent> {
     let ac = account(ac)?;
     Some(Sent {
         from: Party::Switch,
@@ -37,8 +37,8 @@ fn order(txn: u8, leg: Leg, ac: u8, amount: u64) -> Option<Sent> {
             txn: TxnId::read(&[b'T', txn % 10 + b'0'])?,
             leg,
             amount: Paise::of(amount)?,
-            ac,
-            addr: Addr::read(b"ann@alpha")?,
+            ac: Boxed::new(alloc, ac).ok()?,
+            addr: Boxed::new(alloc, Addr::read(b"ann@alpha")?).ok()?,
             extra: None,
         },
         ver: Ver::One,
@@ -76,9 +76,9 @@ fn banks(rt: &HostRuntime) -> Result<BankShards, Fail> {
 }
 
 // Whether an order is planned and committed as it must be.
-fn is_played(banks: &mut BankShards, case: &Case) -> Option<bool> {
+fn is_played(alloc: Global, banks: &mut BankShards, case: &Case) -> Option<bool> {
     let (txn, leg, ac, amount, answer, wanted) = *case;
-    let message = order(txn, leg, ac, amount)?;
+    let message = order(alloc, txn, leg, ac, amount)?;
     let ac = account(ac)?;
     if !banks.can_post(&message) {
         return None;
@@ -90,9 +90,9 @@ fn is_played(banks: &mut BankShards, case: &Case) -> Option<bool> {
 }
 
 // Whether all orders of the table are.
-fn all_played(banks: &mut BankShards) -> Option<bool> {
+fn all_played(alloc: Global, banks: &mut BankShards) -> Option<bool> {
     for case in &CASES {
-        if !is_played(banks, case)? {
+        if !is_played(alloc, banks, case)? {
             return Some(false);
         }
     }
@@ -104,6 +104,6 @@ fn all_played(banks: &mut BankShards) -> Option<bool> {
 #[test]
 fn orders_are_planned_and_committed(rt: HostRuntime) -> Result<(), Fail> {
     let mut banks = banks(&rt)?;
-    assert!(rt; all_played(&mut banks) == Some(true));
+    assert!(rt; all_played(rt.alloc(), &mut banks) == Some(true));
     Ok(())
 }

@@ -30,16 +30,17 @@ fn question(alloc: Global, extra: Option<Extra>, note: Option<Note>) -> Option<B
     Some(Body::ReqAuth(Boxed::new(alloc, asked).ok()?))
 }
 
-fn order(leg: Leg, extra: Option<Extra>) -> Option<Body> {
+fn order(alloc: Global, leg: Leg, extra: Option<Extra>) -> Option<Body> {
+    let ac = AccountRef {
+        bank: BankCode::read(b"AAAA")?,
+        num: AcNum::read(b"1")?,
+    };
     Some(Body::Order {
         txn: TxnId::read(b"T1")?,
         leg,
         amount: Paise::of(3_000)?,
-        ac: AccountRef {
-            bank: BankCode::read(b"AAAA")?,
-            num: AcNum::read(b"1")?,
-        },
-        addr: Addr::read(b"ann@alpha")?,
+        ac: Boxed::new(alloc, ac).ok()?,
+        addr: Boxed::new(alloc, Addr::read(b"ann@alpha")?).ok()?,
         extra,
     })
 }
@@ -66,9 +67,9 @@ fn body(alloc: Global, line: usize) -> Option<Body> {
         0 => question(alloc, None, None),
         1 => question(alloc, extra(), None),
         2 => question(alloc, None, Note::read(b"a \"b\"")),
-        3 => order(Leg::Debit, None),
-        4 => order(Leg::Reversal, extra()),
-        5 => order(Leg::Credit, None),
+        3 => order(alloc, Leg::Debit, None),
+        4 => order(alloc, Leg::Reversal, extra()),
+        5 => order(alloc, Leg::Credit, None),
         6 => Some(Body::RespAuth {
             txn: TxnId::read(b"T1")?,
             amount: Paise::of(3_000)?,

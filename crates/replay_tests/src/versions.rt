@@ -72,7 +72,7 @@ fn payment(alloc: Global, ver: Ver, purpose: &[u8]) -> Result<Call, Fail> {
 }
 
 // An order of 30.00 for Ann's account.
-fn order(leg: Leg) -> Result<Sent, Fail> {
+fn order(alloc: Global, leg: Leg) -> Result<Sent, Fail> {
     let ac = AccountRef::read(b"AAAA/1").ok_or("no account")?;
     Ok(Sent {
         from: Party::Switch,
@@ -81,8 +81,8 @@ fn order(leg: Leg) -> Result<Sent, Fail> {
             txn: txn()?,
             leg,
             amount: Paise::of(3000).ok_or("no amount")?,
-            ac,
-            addr: Addr::read(b"ann@alpha").ok_or("no address")?,
+            ac: Boxed::new(alloc, ac)?,
+            addr: Boxed::new(alloc, Addr::read(b"ann@alpha").ok_or("no address")?)?,
             extra: None,
         },
         ver: Ver::One,
@@ -94,8 +94,8 @@ fn order(leg: Leg) -> Result<Sent, Fail> {
 fn forged(alloc: Global) -> Result<Replay, Fail> {
     let mut switch = Replay::new(alloc, setup_of(alloc, rows::SETUP)?.lines);
     let mut sent = Vec::new(alloc);
-    sent.push(order(Leg::Reversal)?)?;
-    sent.push(order(Leg::Debit)?)?;
+    sent.push(order(alloc, Leg::Reversal)?)?;
+    sent.push(order(alloc, Leg::Debit)?)?;
     switch.push(Entry {
         call: call_of(alloc, b"E 1 0 0 LATE T9")?,
         at: now()?,

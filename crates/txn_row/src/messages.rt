@@ -72,6 +72,7 @@ fn order_at(
     match ac {
         None => Ok(()),
         Some(ac) => {
+            let alloc = *out.allocator();
             out.push(Sent {
                 from: Party::Switch,
                 to: Party::Bank(ac.bank.copy()),
@@ -79,8 +80,8 @@ fn order_at(
                     txn: terms.txn.copy(),
                     leg,
                     amount: terms.amount,
-                    ac: ac.copy(),
-                    addr: posted_addr(leg, terms).copy(),
+                    ac: Boxed::new(alloc, ac.copy())?,
+                    addr: Boxed::new(alloc, posted_addr(leg, terms).copy())?,
                     extra: copy_extra(&terms.extra),
                 },
                 ver: terms.head.ver,

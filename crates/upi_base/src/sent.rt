@@ -93,10 +93,11 @@ pub enum Body {
         leg: Leg,
         /// How much it is to move, 1 to 1,000,000,000 paise.
         amount: Paise,
-        /// The account at which it posts.
-        ac: AccountRef,
+        /// The account at which it posts. On the heap, since each message of a history takes the
+        /// room of its largest form.
+        ac: Boxed<AccountRef>,
         /// The address of that account: the payee's for a credit, else the payer's.
-        addr: Addr,
+        addr: Boxed<Addr>,
         /// The payment's `Txn.initiationMode` and `Txn.purpose`: given exactly with version 2.0.
         extra: Option<Extra>,
     },
@@ -159,8 +160,8 @@ impl Body {
                 txn: txn.copy(),
                 leg: *leg,
                 amount: *amount,
-                ac: ac.copy(),
-                addr: addr.copy(),
+                ac: Boxed::new(alloc, ac.get().copy())?,
+                addr: Boxed::new(alloc, addr.get().copy())?,
                 extra: copy_extra(extra),
             }),
             Body::LegAnswer { txn, leg, answer } => Ok(Body::LegAnswer {

@@ -82,8 +82,8 @@ fn is_order(
             txn == t
                 && leg == *l
                 && amount == *a
-                && same_account(ac, c)
-                && addr == d
+                && same_account(ac, c.get())
+                && addr == d.get()
                 && same_extra(extra, e)
         }
         _ => false,
@@ -152,7 +152,7 @@ fn same_body(a: &Body, b: &Body) -> bool
             ac,
             addr,
             extra,
-        } => is_order(txn, *leg, *amount, ac, addr, extra, b),
+        } => is_order(txn, *leg, *amount, ac.get(), addr.get(), extra, b),
         Body::LegAnswer { txn, leg, answer } => is_answer(txn, *leg, *answer, b),
         Body::Result {
             txn,

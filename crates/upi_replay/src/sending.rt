@@ -66,6 +66,7 @@ fn order_at(
     match account {
         None => Ok(()),
         Some(account) => {
+            let alloc = *out.allocator();
             out.push(Sent {
                 from: Party::Switch,
                 to: Party::Bank(account.ac.bank.copy()),
@@ -73,8 +74,8 @@ fn order_at(
                     txn: r.txn.copy(),
                     leg,
                     amount: r.amount,
-                    ac: account.ac.copy(),
-                    addr: posted_at(leg, r).copy(),
+                    ac: Boxed::new(alloc, account.ac.copy())?,
+                    addr: Boxed::new(alloc, posted_at(leg, r).copy())?,
                     extra: copy_extra(&r.extra),
                 },
                 ver: r.head.ver,

@@ -38,7 +38,7 @@ fn push_body(body: &Body, out: &mut Vec<u8>) -> Result<(), NoMemory>
             push_word(leg_word(*leg), out)?;
             push_word(txn.bytes(), out)?;
             push_sum(*amount, out)?;
-            push_account(ac, out)
+            push_account(ac.get(), out)
         }
         Body::LegAnswer { txn, leg, answer } => {
             push_word(b"ANSWER", out)?;

@@ -355,13 +355,15 @@ fn from_psp(body: Body) -> Result<Sent, Fail> {
     })
 }
 
-fn order(leg: Leg) -> Result<Body, Fail> {
+fn order(alloc: Global, leg: Leg) -> Result<Body, Fail> {
+    let ac = AccountRef::read(b"AAAA/1").ok_or(NoMemory)?;
+    let addr = Addr::read(b"ann@alpha").ok_or(NoMemory)?;
     Ok(Body::Order {
         txn: txn()?,
         leg,
         amount: sum()?,
-        ac: AccountRef::read(b"AAAA/1").ok_or(NoMemory)?,
-        addr: Addr::read(b"ann@alpha").ok_or(NoMemory)?,
+        ac: Boxed::new(alloc, ac)?,
+        addr: Boxed::new(alloc, addr)?,
         extra: None,
     })
 }
@@ -369,9 +371,9 @@ fn order(leg: Leg) -> Result<Body, Fail> {
 #[test]
 fn messages_to_banks(rt: HostRuntime) -> Result<(), Fail> {
     let mut sent = Vec::new(rt.alloc());
-    sent.push(to_bank(order(Leg::Debit)?)?)?;
-    sent.push(to_bank(order(Leg::Credit)?)?)?;
-    sent.push(to_bank(order(Leg::Reversal)?)?)?;
+    sent.push(to_bank(order(rt.alloc(), Leg::Debit)?)?)?;
+    sent.push(to_bank(order(rt.alloc(), Leg::Credit)?)?)?;
+    sent.push(to_bank(order(rt.alloc(), Leg::Reversal)?)?)?;
     sent.push(to_bank(Body::LegAnswer {
         txn: txn()?,
         leg: Leg::Debit,
