@@ -27,7 +27,7 @@ use Rattle.switch_cli.proofs.Wholes.{all_read, next_read, count_read, none_long,
 
 -- ---- audits
 
-read_to : Journal → Result Journal Refusal
+abbrev read_to : Journal → Result Journal Refusal
 read_to j = Ok j
 
 same_read : (i j : Journal) → read_to i ≡ read_to j → i ≡ j
@@ -87,7 +87,7 @@ gives text before after Status.WriteFault g y = absurd (y refl)
 gives text before after Status.NoMemory g y = inl refl
 gives text before after (Status.AuditNo entry w) g y = absurd g
 
-played_to : Played → Result Played Refusal
+abbrev played_to : Played → Result Played Refusal
 played_to q = Ok q
 
 same_played : (q r : Played) → played_to q ≡ played_to r → q ≡ r
