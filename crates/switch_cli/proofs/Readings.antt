@@ -148,9 +148,9 @@ pub audit_stops : (source ahead left : Option Text) (held : Text) (a new : Audit
 audit_stops source ahead left held a new n lines text before after halt same g most step =
     stops source ahead left held a new n text before after halt g most (subst (λ k. AuditSteps k ahead (prepend_known held left) left text a new (Err halt)) (sym same) step)
 
-pub audit_finishes : (source ahead left : Option Text) (held : Text) (a new : AuditState) (n lines : ℕ) (text : Text) (before after : Option Text) (s : Status) → n ≡ lines → Auditing source ahead a n → n ≤ MAX_LINES → AuditSteps lines ahead (prepend_known held left) left text a new (Ok Line.End) → Closes new (n + 1) before after s → Audits source left before after s
-audit_finishes source ahead left held a new n lines text before after s same g most step =
-    finishes source ahead left held a new n text before after s g most (subst (λ k. AuditSteps k ahead (prepend_known held left) left text a new (Ok Line.End)) (sym same) step)
+pub audit_finishes : (source ahead left : Option Text) (held : Text) (a new : AuditState) (n lines : ℕ) (text : Text) (before mid after : Option Text) (s : Status) → n ≡ lines → Auditing source ahead a n → n ≤ MAX_LINES → AuditSteps lines ahead (prepend_known held left) left text a new (Ok Line.End) → mid ≡ before → Closes new (n + 1) mid after s → Audits source left before after s
+audit_finishes source ahead left held a new n lines text before mid after s same g most step here c =
+    finishes source ahead left held a new n text before after s g most (subst (λ k. AuditSteps k ahead (prepend_known held left) left text a new (Ok Line.End)) (sym same) step) (subst (λ o. Closes new (n + 1) o after s) here c)
 
 pub audit_goes_on : (source ahead after left : Option Text) (a new : AuditState) (n lines : ℕ) (text : Text) → n ≡ lines → Auditing source ahead a n → AuditSteps lines ahead after left text a new (Ok Line.Got) → (n < MAX_LINES) × Auditing source after new (n + 1)
 audit_goes_on source ahead after left a new n lines text same g step =

@@ -134,7 +134,10 @@ fn audits(rt: HostRuntime) -> Result<(), Fail> {
         ("STOP\nREPORT\n", "", no_line),
     ];
     for (journal, written, status) in rows {
-        assert!(rt; audited(rt.alloc(), journal, written)? == Some(status), "{journal}");
+        assert!(rt;
+            audited(rt.alloc(), journal, written)? == Some(status),
+            "{journal}"
+        );
     }
     Ok(())
 }
@@ -143,11 +146,13 @@ fn audits(rt: HostRuntime) -> Result<(), Fail> {
 fn is_written(alloc: Global, words: &str, front: &str, lines: usize) -> Result<bool, Fail> {
     let whole = asked(alloc, words, b"no script\n", WHOLE)?;
     let piece = (whole.text.len() / 20).max(1);
-    Ok(whole.status == Status::Done
-        && whole.text.starts_with(front.as_bytes())
-        && whole.text.iter().filter(|c| **c == b'\n').count() == lines
-        && read_untold(alloc, words, b"no script\n", &whole)?.is_none()
-        && write_untold(alloc, words, b"no script\n", piece, &whole)?.is_none())
+    Ok(
+        whole.status == Status::Done
+            && whole.text.starts_with(front.as_bytes())
+            && whole.text.iter().filter(|c| **c == b'\n').count() == lines
+            && read_untold(alloc, words, b"no script\n", &whole)?.is_none()
+            && write_untold(alloc, words, b"no script\n", piece, &whole)?.is_none(),
+    )
 }
 
 #[test]

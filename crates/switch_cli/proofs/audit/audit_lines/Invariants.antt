@@ -10,6 +10,8 @@ invariant-lines g l = record {
   count : l.number ≡ l.reader.lines;
   most : l.number ≤ MAX_LINES;
   going : Auditing (g.S.Source.left l.initial.source) (ahead l.reader (g.S.Source.left l.source)) l.audit l.number;
+  taken : g.K.Sink.taken l.sink ≡ g.K.Sink.taken l.initial.sink;
+  faults : g.K.Sink.faults l.sink ≡ g.K.Sink.faults l.initial.sink;
   read : g.S.Source.faults l.initial.source ≤ g.S.Source.faults l.source;
   sure : g.S.Source.sure l.initial.source ≡ true → g.S.Source.sure l.source ≡ true;
 }
