@@ -1,5 +1,5 @@
 -- The words of a command line, and the command that they ask for.
-use Rattle.std.specs.Prelude.{ℕ, nat_le, ◌&&◌, if◌then◌else◌, List, [], ◌∷◌, length, codes, Option, Some, None}
+use Rattle.std.specs.Prelude.{ℕ, ◌≤◌, nat_le, ◌&&◌, if◌then◌else◌, List, [], ◌∷◌, length, codes, Option, Some, None}
 use Rattle.std.specs.Option.{option_and_then, option_map}
 use Rattle.std.specs.Str.{bytes_eq}
 use Rattle.upi_base.specs.Lists.{when}
@@ -38,3 +38,11 @@ abbrev pub command_of : List (List ℕ) → Option Command
 command_of (name ∷ []) = bare name
 command_of (name ∷ count ∷ seed ∷ []) = sized name count seed
 command_of _ = None
+
+-- the load that a command asks for is no larger than loads may be
+abbrev pub IsWithin : Option Command → Type 0
+IsWithin None = Unit {0}
+IsWithin (Some Command.Script) = Unit {0}
+IsWithin (Some Command.Audit) = Unit {0}
+IsWithin (Some (Command.Generate size)) = (size.count ≤ MAX_COUNT) × (size.seed ≤ MAX_SEED)
+IsWithin (Some (Command.Load size)) = (size.count ≤ MAX_COUNT) × (size.seed ≤ MAX_SEED)

@@ -1,5 +1,6 @@
 //! The commands that wait for nobody, and their words.
 ghost use Rattle.std.specs.Prelude.{◌≡◌, ◌≤◌, IfSome, string_bytes};
+ghost use Rattle.load_generator.specs.declared.text.TheConstants.{MAX_COUNT, MAX_SEED};
 ghost use Rattle.command_words.specs.Commands;
 
 use load_generator::{MAX_COUNT, MAX_SEED};
@@ -33,7 +34,8 @@ pub enum Command {
 
 /// The number in these bounds that a word of 1 to 10 digits spells; `None` for any other word.
 fn value(word: &String, least: u32, most: u32) -> Option<u32>
-    ensures { result ≡ Commands.value least most (string_bytes word.now) }
+    ensures value { result ≡ Commands.value least most (string_bytes word.now) }
+    ensures within { IfSome result (λ n. n ≤ most) }
 {
     let digits = word.as_bytes();
     if digits.len() > MAX_DIGITS {
@@ -48,7 +50,8 @@ fn value(word: &String, least: u32, most: u32) -> Option<u32>
 
 /// The load of these two words.
 fn load_size(count: &String, seed: &String) -> Option<LoadSize>
-    ensures { result ≡ Commands.load_size (string_bytes count.now) (string_bytes seed.now) }
+    ensures size { result ≡ Commands.load_size (string_bytes count.now) (string_bytes seed.now) }
+    ensures within { IfSome result (λ s. (s.count ≤ MAX_COUNT) × (s.seed ≤ MAX_SEED)) }
 {
     Some(LoadSize {
         count: value(count, 1, MAX_COUNT)?,
@@ -58,7 +61,8 @@ fn load_size(count: &String, seed: &String) -> Option<LoadSize>
 
 /// The command with these two values behind its name.
 fn sized(name: &String, count: &String, seed: &String) -> Option<Command>
-    ensures { result ≡ Commands.sized (string_bytes name.now) (string_bytes count.now) (string_bytes seed.now) }
+    ensures command { result ≡ Commands.sized (string_bytes name.now) (string_bytes count.now) (string_bytes seed.now) }
+    ensures within { Commands.IsWithin result }
 {
     let size = load_size(count, seed)?;
     match name.as_str() {
@@ -70,7 +74,8 @@ fn sized(name: &String, count: &String, seed: &String) -> Option<Command>
 
 /// The command that is one word.
 fn bare(name: &String) -> Option<Command>
-    ensures { result ≡ Commands.bare (string_bytes name.now) }
+    ensures command { result ≡ Commands.bare (string_bytes name.now) }
+    ensures within { Commands.IsWithin result }
 {
     match name.as_str() {
         "script" => Some(Command::Script),
@@ -84,6 +89,8 @@ fn bare(name: &String) -> Option<Command>
 /// zeros may stand; COUNT is 1 to 50,000, and SEED at most 2,147,483,647.
 pub fn command_of(words: &Words) -> Option<Command>
     ensures command { result ≡ Commands.command_of words.now }
+    // A load is no larger than loads may be.
+    ensures within { Commands.IsWithin result }
 {
     match words.as_slice() {
         [name] => bare(name),

@@ -1,7 +1,9 @@
+pub mod Completes
 pub mod Cuts
 pub mod Ends
 pub mod Journals
 pub mod Plays
+pub mod Readings
 pub mod Runs
 pub mod Trust
 pub mod Wholes

@@ -77,7 +77,7 @@ ends_here : (source ahead left : Option Text) (p : Play) (n : ℕ) (before mid a
 ends_here source ahead left p n before mid after s g trust most same ends = ends_with source ahead left p n before mid after [] s g trust most (subst (λ o. Appends mid o []) (sym same) (Appends-nil mid)) ends
 
 -- the number of the next line
-next_number : (at n : ℕ) (texts : List Text) → length texts ≡ n → at ≡ n + 1 → at ≡ length texts + 1
+pub next_number : (at n : ℕ) (texts : List Text) → length texts ≡ n → at ≡ n + 1 → at ≡ length texts + 1
 next_number at n texts count is = is ∙ ap (λ k. k + 1) (sym count)
 
 -- the next line isn't found

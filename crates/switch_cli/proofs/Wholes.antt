@@ -1,5 +1,5 @@
 -- A run of a whole script is done, unless an object fails or there is no memory.
-use Rattle.std.proofs.Common.{◌≡◌, ℕ, ◌+◌, ◌≤◌, List, [], ◌∷◌, ◌++◌, length, map, Option, Some, None, Result, Ok, Err, refl, sym, ap, subst, ◌∙◌, inl, inr, ◌⊎◌, arith, append-nil, length-append}
+use Rattle.std.proofs.Common.{◌≡◌, ℕ, ◌+◌, ◌≤◌, true, List, [], ◌∷◌, ◌++◌, length, map, Option, Some, None, Result, Ok, Err, refl, sym, ap, subst, ◌∙◌, inl, inr, ◌⊎◌, arith, append-nil, length-append}
 use Rattle.std.specs.List.{list_all}
 use Rattle.std.specs.Io.KnownBytes.{Appends}
 use Rattle.std.proofs.lemmas.Bool.{and_parts, leb-true}
@@ -19,17 +19,17 @@ use Rattle.switch_cli.proofs.Plays.{refused_there}
 
 -- ---- the lines that were read, among all
 
-all_read : (bytes : Text) (left : Option Text) (texts : List Text) → BeginWith bytes texts (IsOver left) → map text_of (raw_lines bytes) ≡ texts
+pub all_read : (bytes : Text) (left : Option Text) (texts : List Text) → BeginWith bytes texts (IsOver left) → map text_of (raw_lines bytes) ≡ texts
 all_read bytes left texts b = ap (map text_of) (b.lines ∙ ap (λ (r : Text). b.read ++ raw_lines r) b.after.0 ∙ append-nil b.read) ∙ b.are
 
-next_read : (bytes text : Text) (texts : List Text) (b : BeginWith bytes texts (IsNext text)) → map text_of (raw_lines bytes) ≡ texts ++ text ∷ map text_of b.after.1
+pub next_read : (bytes text : Text) (texts : List Text) (b : BeginWith bytes texts (IsNext text)) → map text_of (raw_lines bytes) ≡ texts ++ text ∷ map text_of b.after.1
 next_read bytes text texts b =
     ap (map text_of) (b.lines ∙ ap (λ r. b.read ++ r) b.after.2)
     ∙ map-append text_of b.read (b.after.0 ∷ b.after.1)
     ∙ ap (λ ts. ts ++ map text_of (b.after.0 ∷ b.after.1)) b.are
     ∙ ap (λ t. texts ++ t ∷ map text_of b.after.1) (sym b.after.4)
 
-count_read : (bytes : Text) (texts : List Text) (b : BeginWith bytes texts IsMore) → length texts + 1 ≤ length (raw_lines bytes)
+pub count_read : (bytes : Text) (texts : List Text) (b : BeginWith bytes texts IsMore) → length texts + 1 ≤ length (raw_lines bytes)
 count_read bytes texts b =
     let whole = ap length b.lines ∙ length-append b.read (raw_lines b.rest) in
     let rest = ap length b.after.2 in
@@ -69,10 +69,11 @@ not_bad bytes left texts p q field w e (inl r) k = not_refused bytes texts p q f
 not_bad bytes left texts p q field w e (inr (inl m)) k = not_many bytes texts q field w m k
 not_bad bytes left texts p q field w e (inr (inr r)) k = not_early bytes left texts p q field w e r k
 
-not_long : (bytes : Text) (texts : List Text) (q : Played) → BeginWith bytes texts (IsLong texts) → IsScript bytes q → ⊥
-not_long bytes texts q b k =
+-- no line is too long, where all are short
+pub none_long : (bytes : Text) (texts : List Text) → BeginWith bytes texts (IsLong texts) → list_all is_short (raw_lines bytes) ≡ true → ⊥
+none_long bytes texts b are_short =
     let cut : raw_lines bytes ≡ b.read ++ b.after.0 ∷ b.after.1 = b.lines ∙ ap (λ r. b.read ++ r) b.after.2 in
-    let all = sym (list_all-append is_short b.read (b.after.0 ∷ b.after.1)) ∙ ap (list_all is_short) (sym cut) ∙ k.short in
+    let all = sym (list_all-append is_short b.read (b.after.0 ∷ b.after.1)) ∙ ap (list_all is_short) (sym cut) ∙ are_short in
     let rest = and_parts (list_all is_short b.read) (list_all is_short (b.after.0 ∷ b.after.1)) all in
     let short = and_parts (is_short b.after.0) (list_all is_short b.after.1) rest.1 in
     omega (arith, leb-true (line_len b.after.0) MAX_LINE short.0, b.after.3)
@@ -92,10 +93,11 @@ ends : (bytes : Text) (left before after : Option Text) (q : Played) (s : Status
 ends bytes left before after q Status.Done r x y k = inr (whole bytes left before after q r k)
 ends bytes left before after q Status.Usage r x y k = absurd r.ends
 ends bytes left before after q (Status.BadLine at field w) r x y k = absurd (not_bad bytes left r.texts r.played q field w r.plays r.ends.2 k)
-ends bytes left before after q (Status.TooLong at) r x y k = absurd (not_long bytes r.texts q r.ends.2 k)
+ends bytes left before after q (Status.TooLong at) r x y k = absurd (none_long bytes r.texts r.ends.2 k.short)
 ends bytes left before after q Status.ReadFault r x y k = absurd (x refl)
 ends bytes left before after q Status.WriteFault r x y k = absurd (y refl)
 ends bytes left before after q Status.NoMemory r x y k = inl refl
+ends bytes left before after q (Status.AuditNo entry w) r x y k = absurd r.ends
 
 pub completes : (source left before after : Option Text) (s : Status) → Ran source left before after s → (s ≡ Status.ReadFault → ⊥) → (s ≡ Status.WriteFault → ⊥) → Completes source before after s
 completes None left before after s r x y = tt

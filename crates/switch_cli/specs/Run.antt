@@ -89,6 +89,7 @@ EndsBy source left texts q part (Status.TooLong line) = (part ≡ []) × (line �
 EndsBy source left texts q part Status.ReadFault = (part ≡ []) × AreRead source texts (IsCutAt left)
 EndsBy source left texts q part Status.WriteFault = StopsInLine source texts q.play part ⊎ StopsAtEnd source left texts q.play part
 EndsBy source left texts q part Status.NoMemory = (part ≡ []) × AreRead source texts IsAny
+EndsBy source left texts q part (Status.AuditNo entry w) = ⊥
 
 -- What a run of a script does: it reads lines, and writes what they play to; and then it ends. This holds of a source that doesn't tell what it has
 -- left, too: only then nothing is said of what the texts have to do with its bytes.

@@ -1,33 +1,69 @@
 //! The call that a program makes: what the words ask for, from a source to a sink.
-ghost use Rattle.std.specs.Prelude.{◌≡◌, ◌≢◌, ◌↔◌, ◌≤◌, true, false, codes};
+ghost use Rattle.std.specs.Prelude.{◌≡◌, ◌≢◌, ◌↔◌, ◌≤◌, true, false, Some, None};
 ghost use Rattle.upi_io.specs.Faults.{Rose};
-ghost use Rattle.upi_io.specs.Words.{is_one_word};
-ghost use Rattle.switch_cli.specs.Run.{Ran, Completes};
+ghost use Rattle.command_words.specs.Commands.{command_of, IsWithin};
+ghost use Rattle.switch_cli.specs.Audits.{is_final};
+ghost use Rattle.switch_cli.specs.Does.{Does, CompletesAs, reads_input};
 
+use crate::audit::run_audit;
 use crate::script::run_script;
+use command_words::{Command, command_of};
+use load_commands::{run_generate, run_load_summary};
 use std::alloc::Global;
 use upi_io::{Sink, Source, Status, Words};
 
-/// Does what the words ask for, and answers how that ended. The only command is the one word
-/// `script`: the lines of the source are run as a script, and what they write goes into the sink,
-/// line by line, with the report at the end.
+// Does what a command asks for.
+fn perform<S: Source, K: Sink>(
+    alloc: Global,
+    command: Command,
+    source: &mut S,
+    sink: &mut K,
+) -> Status
+    requires { IsWithin (Some command) }
+    ensures does { Does (Some command) (S.left source.old) (S.left source.new) (K.taken sink.old) (K.taken sink.new) result }
+    ensures unread { reads_input (Some command) ≡ false → source.new ≡ source.old }
+    ensures usage { result ≢ Status.Usage }
+    ensures ended { reads_input (Some command) ≡ true → is_final result ≡ true → S.ended source.new ≡ true }
+    ensures read { result ≡ Status.ReadFault → Rose (S.faults source.old) (S.faults source.new) }
+    ensures write { result ≡ Status.WriteFault → Rose (K.faults sink.old) (K.faults sink.new) }
+    ensures reads { S.faults source.old ≤ S.faults source.new }
+    ensures writes { K.faults sink.old ≤ K.faults sink.new }
+    ensures sure { S.sure source.old ≡ true → result ≢ Status.ReadFault }
+{
+    match command {
+        Command::Script => run_script(alloc, source, sink),
+        Command::Audit => run_audit(alloc, source, sink),
+        Command::Generate(size) => run_generate(alloc, size.count, size.seed, sink),
+        Command::Load(size) => run_load_summary(alloc, size.count, size.seed, sink),
+    }
+}
+
+/// Does what the words ask for, and answers how that ended:
+///
+/// - `script`: the lines of the source are run as a script, and what they write goes into the sink as
+///   they are played, with the report at the end.
+/// - `audit`: the lines of the source are judged as a journal. At their end the verdict is written; where
+///   it is no, the status is `AuditNo`.
+/// - `gen COUNT SEED`: the text of a load of so many payments is written.
+/// - `load COUNT SEED`: that load is run, and the line that sums it up is written.
 ///
 /// `Usage` comes exactly for other words, and then nothing is read or written. `BadLine` comes at the
 /// first line outside the grammar, `TooLong` at the first line of more than 65,536 bytes; what the
-/// lines before it write is written then, and nothing more. `ReadFault` and `WriteFault` come only
-/// where the source or the sink failed. `NoMemory` may come at any time.
+/// lines of a script before it write is written then, and nothing more. `ReadFault` and `WriteFault`
+/// come only where the source or the sink failed. `NoMemory` may come at any time.
 pub fn run<S: Source, K: Sink>(alloc: Global, words: &Words, source: &mut S, sink: &mut K) -> Status
-    ensures usage { result ≡ Status.Usage ↔ (is_one_word (codes "script") words.now ≡ false) }
+    ensures usage { result ≡ Status.Usage ↔ (command_of words.now ≡ None) }
     ensures nothing { result ≡ Status.Usage → (source.new ≡ source.old) × (sink.new ≡ sink.old) }
-    // What was written and why it ended is what the lines of the source call for.
-    ensures script { is_one_word (codes "script") words.now ≡ true
-        → Ran (S.left source.old) (S.left source.new) (K.taken sink.old) (K.taken sink.new) result }
-    // A script is done, with all its text written, where neither the source nor the sink failed.
-    ensures complete { is_one_word (codes "script") words.now ≡ true
-        → ¬ Rose (S.faults source.old) (S.faults source.new) → ¬ Rose (K.faults sink.old) (K.faults sink.new)
-        → Completes (S.left source.old) (K.taken sink.old) (K.taken sink.new) result }
-    // Done comes only where the source answered that it has ended.
-    ensures ended { result ≡ Status.Done → S.ended source.new ≡ true }
+    // What was written and why it ended is what the command calls for, over the lines of the source.
+    ensures does { Does (command_of words.now) (S.left source.old) (S.left source.new) (K.taken sink.old) (K.taken sink.new) result }
+    // `gen` and `load` read nothing.
+    ensures unread { reads_input (command_of words.now) ≡ false → source.new ≡ source.old }
+    // All is done, with all its text written, where the lines are a whole input, and neither the source
+    // nor the sink failed.
+    ensures complete { ¬ Rose (S.faults source.old) (S.faults source.new) → ¬ Rose (K.faults sink.old) (K.faults sink.new)
+        → CompletesAs (command_of words.now) (S.left source.old) (K.taken sink.old) (K.taken sink.new) result }
+    // Where an input is read, Done and AuditNo come only where the source answered that it has ended.
+    ensures ended { reads_input (command_of words.now) ≡ true → is_final result ≡ true → S.ended source.new ≡ true }
     // Faults come only where that object's count rose, and counts never fall.
     ensures read { result ≡ Status.ReadFault → Rose (S.faults source.old) (S.faults source.new) }
     ensures write { result ≡ Status.WriteFault → Rose (K.faults sink.old) (K.faults sink.new) }
@@ -36,8 +72,8 @@ pub fn run<S: Source, K: Sink>(alloc: Global, words: &Words, source: &mut S, sin
     // A source that can't fail hasn't.
     ensures sure { S.sure source.old ≡ true → result ≢ Status.ReadFault }
 {
-    if !words.is_one_word("script") {
-        return Status::Usage;
+    match command_of(words) {
+        Some(command) => perform(alloc, command, source, sink),
+        None => Status::Usage,
     }
-    run_script(alloc, source, sink)
 }

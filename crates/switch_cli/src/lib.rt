@@ -1,6 +1,7 @@
 //! The top calls: what the programs do with the words and the streams that they are given.
 #![tactic(auto)]
 
+mod audit;
 pub mod command;
 mod script;
 

@@ -53,7 +53,7 @@ impl From<Wrote> for Stop {
 }
 
 // How a run ends where the line of this number isn't found.
-fn read_status(line: u64, fault: LineFault) -> Status
+pub(crate) fn read_status(line: u64, fault: LineFault) -> Status
     ensures { result ≡ read_status line fault }
 {
     match fault {
@@ -69,7 +69,7 @@ fn read_status(line: u64, fault: LineFault) -> Status
 }
 
 // How a run ends where the line of this number isn't played.
-fn play_status(line: u64, fault: EngineFault) -> Status
+pub(crate) fn play_status(line: u64, fault: EngineFault) -> Status
     ensures { result ≡ play_status line fault }
 {
     match fault {

@@ -2,20 +2,8 @@
 ghost use Rattle.std.specs.Prelude.{◌≡◌, ◌++◌, OnOk};
 ghost use Rattle.upi_audit.specs.Written;
 
-use upi_base::{AuditWhy, NoMemory, Verdict, write_number};
-
-/// The word of a reason.
-pub(crate) fn why_word(why: AuditWhy) -> &'static [u8]
-    ensures { result.now ≡ Written.why_text why }
-{
-    match why {
-        AuditWhy::Call => b"CALL",
-        AuditWhy::Reply => b"REPLY",
-        AuditWhy::Sent => b"SENT",
-        AuditWhy::NoClose => b"NOCLOSE",
-        AuditWhy::Report => b"REPORT",
-    }
-}
+use upi_base::{NoMemory, Verdict, write_number};
+use upi_io::audit_why_name;
 
 /// Appends the line of a verdict, with its line feed: `YES entries` or `NO entry WHY`. At want of
 /// memory a part may be appended.
@@ -33,7 +21,7 @@ pub fn write_verdict(verdict: Verdict, out: &mut Vec<u8>) -> Result<(), NoMemory
             out.extend_from_slice(b"NO ")?;
             write_number(entry, out)?;
             out.push(b' ')?;
-            out.extend_from_slice(why_word(why))?;
+            out.extend_from_slice(audit_why_name(why))?;
             out.push(b'\n')?;
             Ok(())
         }

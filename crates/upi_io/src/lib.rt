@@ -17,7 +17,7 @@ pub use memory::{MemSink, MemSource};
 pub use sink::{Sink, WriteAnswer, Wrote, write_all};
 pub use source::{ReadAnswer, Source};
 pub use standard::{Reading, Writing};
-pub use status::Status;
+pub use status::{Status, audit_why_name};
 pub use words::Words;
 
 #[cfg(test)]

@@ -1,9 +1,9 @@
 //! How a top call ends.
 ghost use Rattle.std.specs.Prelude.{◌≡◌, ◌++◌, OnOk, OnErr};
-ghost use Rattle.upi_io.specs.Status.{why_name, status_code, status_text, bad_line_text, long_line_text};
+ghost use Rattle.upi_io.specs.Status.{why_name, audit_why_name, status_code, status_text, bad_line_text, long_line_text, audit_no_text};
 
 use itoa::Buffer;
-use upi_base::{NoMemory, Why};
+use upi_base::{AuditWhy, NoMemory, Why};
 
 /// How a top call ends.
 #[derive(Clone, Copy, Debug, PartialEq, Eq)]
@@ -32,6 +32,14 @@ pub enum Status {
     WriteFault,
     /// There was no memory.
     NoMemory,
+    /// A journal isn't right.
+    AuditNo {
+        /// The place of its first wrong entry, counted from 1; the count of entries where there is no
+        /// Close; or the number of the first wrong line of its report.
+        entry: u64,
+        /// What is wrong there first.
+        why: AuditWhy,
+    },
 }
 
 impl Status {
@@ -51,6 +59,10 @@ impl Status {
             Status::ReadFault => 4,
             Status::WriteFault => 5,
             Status::NoMemory => 6,
+            Status::AuditNo {
+                entry: _entry,
+                why: _why,
+            } => 7,
         }
     }
 
@@ -69,6 +81,7 @@ impl Status {
             Status::ReadFault => push(out, b"upi: read fault\n"),
             Status::WriteFault => push(out, b"upi: write fault\n"),
             Status::NoMemory => push(out, b"upi: no memory\n"),
+            Status::AuditNo { entry, why } => push_audit_no(out, *entry, *why),
         }
     }
 }
@@ -88,6 +101,19 @@ fn why_name(why: Why) -> &'static [u8]
         Why::NoAccount => b"NOACCOUNT",
         Why::Limit => b"LIMIT",
         Why::End => b"END",
+    }
+}
+
+/// The name of what is wrong with a journal, in capitals.
+pub fn audit_why_name(why: AuditWhy) -> &'static [u8]
+    ensures { result.now ≡ audit_why_name why }
+{
+    match why {
+        AuditWhy::Call => b"CALL",
+        AuditWhy::Reply => b"REPLY",
+        AuditWhy::Sent => b"SENT",
+        AuditWhy::NoClose => b"NOCLOSE",
+        AuditWhy::Report => b"REPORT",
     }
 }
 
@@ -132,5 +158,22 @@ fn push_long_line(out: &mut Vec<u8>, line: u64) -> Result<(), NoMemory>
     out.extend_from_slice(b"upi: line ")?;
     out.extend_from_slice(line)?;
     out.extend_from_slice(b": too long\n")?;
+    Ok(())
+}
+
+// Appends the line of a journal that isn't right.
+fn push_audit_no(out: &mut Vec<u8>, entry: u64, why: AuditWhy) -> Result<(), NoMemory>
+    ensures ok { OnOk result (out.new.items ≡ out.old.items ++ audit_no_text entry why) }
+    ensures err { OnErr result (out.new.items ≡ out.old.items) }
+{
+    let mut digits = Buffer::new();
+    let entry = digits.format(entry).as_bytes();
+    let why = audit_why_name(why);
+    out.reserve(21 + entry.len() + why.len())?;
+    out.extend_from_slice(b"upi: audit: entry ")?;
+    out.extend_from_slice(entry)?;
+    out.extend_from_slice(b": ")?;
+    out.extend_from_slice(why)?;
+    out.extend_from_slice(b"\n")?;
     Ok(())
 }

@@ -5,7 +5,7 @@ use super::*;
 use std::alloc::Global;
 use std::io::BufWriter;
 use std::test::Fail;
-use upi_base::{NoMemory, Why};
+use upi_base::{AuditWhy, NoMemory, Why};
 
 // A source over these bytes. The calls listed fail.
 fn source(alloc: Global, bytes: &[u8], piece: usize, fail_at: &[u64]) -> Result<MemSource, Fail>
@@ -218,6 +218,10 @@ fn statuses(rt: HostRuntime) -> Result<(), Fail> {
         field: 3,
         why: Why::NoAccount,
     };
+    let wrong = Status::AuditNo {
+        entry: 4,
+        why: AuditWhy::Reply,
+    };
     let rows = [
         (Status::Done, 0, b"".as_slice()),
         (Status::Usage, 2, b"upi: usage\n".as_slice()),
@@ -230,6 +234,7 @@ fn statuses(rt: HostRuntime) -> Result<(), Fail> {
         (Status::ReadFault, 4, b"upi: read fault\n".as_slice()),
         (Status::WriteFault, 5, b"upi: write fault\n".as_slice()),
         (Status::NoMemory, 6, b"upi: no memory\n".as_slice()),
+        (wrong, 7, b"upi: audit: entry 4: REPLY\n".as_slice()),
     ];
     for (status, code, want) in rows {
         let mut line = Vec::new(alloc);

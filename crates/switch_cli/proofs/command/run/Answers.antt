@@ -1,5 +1,7 @@
-use Rattle.switch_cli.proofs.Wholes.{completes}
+use Rattle.std.proofs.Common.{Some}
+use Rattle.switch_cli.proofs.Completes.{completes_as}
 use Rattle.switch_cli.proofs.command.run.Goals as goal
 
-pub returns-clause-complete : goal.returns-clause-complete
-returns-clause-complete g c = λ is read write. completes _ _ _ _ c.run_script.result c.run_script.ensures.ran (λ e. read (c.run_script.ensures.read e)) (λ e. write (c.run_script.ensures.write e))
+pub returns-in-Some-clause-complete : goal.returns-in-Some-clause-complete
+returns-in-Some-clause-complete g c =
+    rw (← c.command_of.ensures.command) (rw c.in-Some.is (λ read write. completes_as (Some c.in-Some.command) _ _ _ _ c.perform.result c.perform.ensures.does (λ e. read (c.perform.ensures.read e)) (λ e. write (c.perform.ensures.write e))))
