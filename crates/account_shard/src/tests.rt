@@ -8,7 +8,8 @@ use std::hash::RandomState;
 use std::test::Fail;
 use upi_base::limits::MAX_AMOUNT;
 use upi_base::{
-    Account, AccountRef, Addr, Answer, Body, Boxed, Code, Leg, Paise, Party, Reply, Sent, TxnId, Ver,
+    Account, AccountRef, Addr, Answer, Body, Boxed, Code, Leg, Paise, Party, Reply, Sent, TxnId,
+    Ver,
 };
 
 // The number of a transaction, the leg, the number of an account and the amount of an order; how it

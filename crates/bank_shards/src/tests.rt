@@ -3,8 +3,8 @@ use std::alloc::Global;
 use std::hash::RandomState;
 use std::test::Fail;
 use upi_base::{
-    AccountRef, Addr, Answer, BankCode, Body, Boxed, Code, Leg, Moment, Paise, Party, Reply, Sent, Setup,
-    SetupLine, SetupLines, TxnId, Ver,
+    AccountRef, Addr, Answer, BankCode, Body, Boxed, Code, Leg, Moment, Paise, Party, Reply, Sent,
+    Setup, SetupLine, SetupLines, TxnId, Ver,
 };
 use vpa_directory::Directory;
 

@@ -310,7 +310,15 @@ fn push_body(out: &mut Vec<u8>, req: &[u8], body: &Body) -> Result<(), NoMemory>
             ac,
             addr,
             extra,
-        } => push_order(out, txn, *leg, extra, &Some(ac.get().copy()), *amount, addr.get()),
+        } => push_order(
+            out,
+            txn,
+            *leg,
+            extra,
+            &Some(ac.get().copy()),
+            *amount,
+            addr.get(),
+        ),
         Body::LegAnswer { txn, leg, answer } => push_result(
             out,
             declined_code(*answer),
