@@ -37,6 +37,6 @@ fn a_generated_load(rt: HostRuntime) -> Result<(), Fail> {
     assert!(rt; sink.taken().iter().filter(|c| **c == b'\n').count() == 91);
     let mut full = MemSink::new(alloc, 20, 4096, Vec::new(alloc))?;
     assert!(rt; run_generate(alloc, 1, 1, &mut full) == Status::WriteFault);
-    assert!(rt; full.taken() == b"START 2024-01-01T05:");
+    assert!(rt; full.taken() == b"START 2024-01-01T05:".as_slice());
     Ok(())
 }
