@@ -1,10 +1,10 @@
 //! An entry as it is handed out: it borrows what the list keeps.
 ghost use Rattle.std.specs.Prelude.{◌≡◌};
 ghost use Rattle.entry_log.specs.Rows.{call_of};
-ghost use Rattle.entry_log.specs.Views.{shown_call};
+ghost use Rattle.entry_log.specs.Views.{shown, shown_call};
 
 use crate::rows::Made;
-use upi_base::{Call, Moment, Reply, Sent};
+use upi_base::{Call, Entry, Moment, Reply, Sent};
 
 /// The call of an entry.
 #[derive(Clone, Copy)]
@@ -43,5 +43,20 @@ pub(crate) fn call_view(made: &Made) -> CallView<'_>
         Made::Deliver(n) => CallView::Deliver(*n),
         Made::Lose(n) => CallView::Lose(*n),
         Made::Close => CallView::Close,
+    }
+}
+
+impl EntryView<'_> {
+    /// The view of an entry that stands whole elsewhere.
+    pub fn of(entry: &Entry) -> EntryView<'_>
+        ensures { shown result ≡ entry.now }
+    {
+        EntryView {
+            call: CallView::Whole(&entry.call),
+            at: entry.at,
+            caller: entry.caller,
+            reply: entry.reply,
+            sent: entry.sent.items(),
+        }
     }
 }

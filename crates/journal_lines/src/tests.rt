@@ -1,4 +1,5 @@
 use crate::{EntryLine, JournalLine, JournalReader};
+use entry_log::Log;
 use std::alloc::Global;
 use std::test::Fail;
 use upi_base::{EngineFault, Entry, NoMemory, SentList, Why};
@@ -64,6 +65,17 @@ fn first_taken<'a>(alloc: Global, table: &'a str) -> Result<Option<&'a str>, Fai
     Ok(None)
 }
 
+// Appends the lines of the first entry of a list, as if it stood at this place.
+fn first_entry(alloc: Global, log: &Log, place: u64, out: &mut Vec<u8>) -> Result<(), NoMemory> {
+    let Some(entry) = log.entry(1) else {
+        return Ok(());
+    };
+    if entry.sent.len() < 20 {
+        entry_text(alloc, &entry, place, 1, out)?;
+    }
+    Ok(())
+}
+
 // What an E line says, written again.
 fn rewritten(alloc: Global, line: EntryLine) -> Result<Vec<u8>, NoMemory> {
     let mut out = Vec::new(alloc);
@@ -75,7 +87,9 @@ fn rewritten(alloc: Global, line: EntryLine) -> Result<Vec<u8>, NoMemory> {
         reply: line.reply,
         sent: SentList::new(alloc),
     };
-    entry_text(alloc, &entry, place, 1, &mut out)?;
+    let mut log = Log::new(alloc);
+    log.append(entry)?;
+    first_entry(alloc, &log, place, &mut out)?;
     Ok(out)
 }
 

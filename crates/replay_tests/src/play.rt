@@ -1,12 +1,13 @@
 //! Plays a journal: its calls and moments give the replies and the messages.
 //!
 //! A message that is heard stands in the journal in short: its kind, and what counts of it.
+use entry_log::Log;
 use std::alloc::Global;
 use std::test::Fail;
 use upi_base::{
     AccountRef, Addr, Api, AuthResp, BadMessage, Boxed, Call, Chk, ConfResp, Entry, Head, Input,
-    Kind, Message, Minutes, Moment, MsgId, MsgWhy, OrgId, Paise, PathText, PayReq, PspName, Setup,
-    TxnId, Ver,
+    Kind, Message, Minutes, Moment, MsgId, MsgWhy, NoMemory, OrgId, Paise, PathText, PayReq,
+    PspName, Setup, TxnId, Ver,
 };
 use upi_replay::Replay;
 use upi_text::{SetupText, entry_text, number, word};
@@ -195,11 +196,24 @@ pub(crate) fn written(alloc: Global, history: &[Entry]) -> Result<Vec<u8>, Fail>
     Ok(out)
 }
 
+// Appends the lines of the first entry of a list, whose messages are numbered from `first`.
+fn first_entry(alloc: Global, log: &Log, first: u64, out: &mut Vec<u8>) -> Result<(), NoMemory> {
+    let Some(entry) = log.entry(1) else {
+        return Ok(());
+    };
+    if first < 1_000_000 && entry.sent.len() < 20 {
+        entry_text(alloc, &entry, 1, first, out)?;
+    }
+    Ok(())
+}
+
 fn push_entry(alloc: Global, entry: &Entry, first: u64, out: &mut Vec<u8>) -> Result<u64, Fail> {
     let count = entry.sent.items().len() as u64;
     let next = first.checked_add(count).ok_or("too many messages")?;
+    let mut log = Log::new(alloc);
+    log.append(entry.copy(alloc)?)?;
     let mut text = Vec::new(alloc);
-    entry_text(alloc, entry, 1, first, &mut text)?;
+    first_entry(alloc, &log, first, &mut text)?;
     out.extend_from_slice(behind_call(&text))?;
     Ok(next)
 }

@@ -1,5 +1,6 @@
 //! A switch that is open, and what lines do on it.
 ghost use Rattle.std.specs.Prelude.{◌≡◌, ◌++◌, ◌==◌, ◌%◌, ◌+◌, ◌&&◌, nat_lt, length, OnOk};
+ghost use Rattle.entry_log.specs.Views.{shown};
 ghost use Rattle.upi_text.specs.Journal.{entry_lines};
 ghost use Rattle.script_engine.specs.Play.{divides, refusal_text};
 ghost use Rattle.script_engine.specs.calls.Marks.{message_in};
@@ -8,13 +9,12 @@ ghost use Rattle.script_engine.specs.calls.Tries.{ToldAnswer, IfWritten};
 use crate::counts::{count_deemed, count_failure, count_items, count_success};
 use crate::line::{Command, call_read};
 use crate::pending::Pending;
+use entry_log::EntryView;
 use recon_report::report;
 use std::alloc::Global;
 use std::marker::Model;
 use switch_core::{Core, CoreFault};
-use upi_base::{
-    Call, Done, EngineFault, Entry, MAX_ENTRIES, Moment, NoMemory, Summary, write_number,
-};
+use upi_base::{Call, Done, EngineFault, MAX_ENTRIES, Moment, NoMemory, Summary, write_number};
 use upi_msg::Reader;
 use upi_text::entry_text;
 use vpa_directory::Directory;
@@ -71,14 +71,14 @@ fn tell(fault: CoreFault, out: &mut Vec<u8>) -> Result<bool, NoMemory>
 /// Writes an entry with its place, if the numbers of its messages from the first on fit a `u64`.
 fn write_lines(
     alloc: Global,
-    entry: &Entry,
+    entry: &EntryView<'_>,
     place: u64,
     first: u64,
     out: &mut Vec<u8>,
 ) -> Result<(), NoMemory>
-    ensures { OnOk result (out.new.items ≡ out.old.items ++ entry_lines entry.now place first) }
+    ensures { OnOk result (out.new.items ≡ out.old.items ++ entry_lines (shown entry.now) place first) }
 {
-    let count = entry.sent.items().len() as u64;
+    let count = entry.sent.len() as u64;
     if count >= u64::MAX - first {
         return Err(NoMemory);
     }
@@ -102,7 +102,7 @@ fn write_entry(
     let Some(entry) = core.entry(place) else {
         return Err(NoMemory);
     };
-    write_lines(alloc, entry, place, first, out)?;
+    write_lines(alloc, &entry, place, first, out)?;
     Ok(())
 }
 

@@ -1,11 +1,11 @@
 //! The core: one switch, called by one caller.
 use crate::balances::{all_held, held};
 use crate::fault::CoreFault;
+use entry_log::EntryView;
 use std::alloc::Global;
 use std::marker::Model;
 use upi_base::{
-    AccountRef, Call, Done, Entry, Moment, NoMemory, Outcome, Sent, Setup, TxnId, TxnRow,
-    account_named,
+    AccountRef, Call, Done, Moment, NoMemory, Outcome, Sent, Setup, TxnId, TxnRow, account_named,
 };
 use upi_replay::Replay;
 use vpa_directory::{At, Directory, SetupFault};
@@ -30,8 +30,9 @@ impl Model for Core {
 }
 
 impl Core {
-    ghost use Rattle.std.specs.Prelude.{◌≡◌, IfOk, OnErr, None, [], length};
+    ghost use Rattle.std.specs.Prelude.{◌≡◌, IfOk, OnErr, None, [], length, option_map};
     ghost use Rattle.std.specs.Option.{option_copied};
+    ghost use Rattle.entry_log.specs.Views.{shown};
     ghost use Rattle.upi_model.specs.History;
     ghost use Rattle.upi_model.specs.DueList;
     ghost use Rattle.upi_model.specs.Outcomes;
@@ -160,13 +161,16 @@ impl Core {
     }
 
     /// The entry at a place, counted from 1; `None` exactly where there is none.
-    pub fn entry(&self, k: u64) -> Option<&Entry>
-        ensures { option_copied result ≡ Calls.entry_at self.now.history k }
+    pub fn entry(&self, k: u64) -> Option<EntryView<'_>>
+        ensures { option_map shown result ≡ Calls.entry_at self.now.history k }
     {
         if k == 0 {
             return None;
         }
-        self.replay.entries().get(k as usize - 1)
+        match self.replay.entries().get(k as usize - 1) {
+            Some(entry) => Some(EntryView::of(entry)),
+            None => None,
+        }
     }
 
     /// The message of a number, counted from 1; `None` exactly where it wasn't sent.

@@ -1,5 +1,6 @@
 //! The lines of a journal.
-ghost use Rattle.std.specs.Prelude.{◌≡◌, ◌++◌, ◌+◌, ◌<◌, ◌^◌, length, IfOk, OnOk, OnErr};
+ghost use Rattle.std.specs.Prelude.{◌≡◌, ◌++◌, ◌+◌, ◌<◌, ◌^◌, length, decimal, IfOk, OnOk, OnErr};
+ghost use Rattle.entry_log.specs.Views.{shown, shown_call};
 ghost use Rattle.upi_text.specs.Pieces.{spaced};
 ghost use Rattle.upi_text.specs.Journal.{body_text, message_line as message_line_of, sent_line as sent_line_of, sent_lines, heard_text, call_text, entry_line as entry_line_of, entry_lines};
 
@@ -7,8 +8,9 @@ use crate::pieces::{
     fault_word, party_word, push, push_account, push_answer, push_number, push_outcome, push_reply,
     push_sum, push_word, yes_word,
 };
+use entry_log::{CallView, EntryView};
 use std::alloc::Global;
-use upi_base::{Body, Call, Entry, Input, NoMemory, PspName, Sent, TxnId, leg_word};
+use upi_base::{Body, Call, Input, NoMemory, PspName, Sent, leg_word};
 
 // Appends a space and what a message says.
 fn push_body(body: &Body, out: &mut Vec<u8>) -> Result<(), NoMemory>
@@ -130,20 +132,22 @@ fn push_heard(
     }
 }
 
+// Appends a space and the word of a call that takes a message, with the message's number.
+fn push_taking(call: &[u8], n: u64, out: &mut Vec<u8>) -> Result<(), NoMemory>
+    ensures { OnOk result (out.new.items ≡ out.old.items ++ spaced (call.now ++ spaced (decimal n))) }
+{
+    push_word(call, out)?;
+    push_number(n, out)
+}
+
 // Appends a space and a call.
 fn push_call(alloc: Global, call: &Call, out: &mut Vec<u8>) -> Result<(), NoMemory>
     ensures { OnOk result (out.new.items ≡ out.old.items ++ spaced (call_text call.now)) }
 {
     match call {
         Call::Hear { psp, input } => push_heard(alloc, psp, input, out),
-        Call::Deliver(n) => {
-            push_word(b"DELIVER", out)?;
-            push_number(*n, out)
-        }
-        Call::Lose(n) => {
-            push_word(b"LOSE", out)?;
-            push_number(*n, out)
-        }
+        Call::Deliver(n) => push_taking(b"DELIVER", *n, out),
+        Call::Lose(n) => push_taking(b"LOSE", *n, out),
         Call::Late(txn) => {
             push_word(b"LATE", out)?;
             push_word(txn.bytes(), out)
@@ -152,15 +156,32 @@ fn push_call(alloc: Global, call: &Call, out: &mut Vec<u8>) -> Result<(), NoMemo
     }
 }
 
+// Appends a space and the call of an entry.
+fn push_shown(alloc: Global, call: &CallView<'_>, out: &mut Vec<u8>) -> Result<(), NoMemory>
+    ensures { OnOk result (out.new.items ≡ out.old.items ++ spaced (call_text (shown_call call.now))) }
+{
+    match call {
+        CallView::Whole(call) => push_call(alloc, call, out),
+        CallView::Deliver(n) => push_taking(b"DELIVER", *n, out),
+        CallView::Lose(n) => push_taking(b"LOSE", *n, out),
+        CallView::Close => push_word(b"CLOSE", out),
+    }
+}
+
 // Appends the E line of an entry.
-fn push_entry(alloc: Global, place: u64, entry: &Entry, out: &mut Vec<u8>) -> Result<(), NoMemory>
-    ensures { OnOk result (out.new.items ≡ out.old.items ++ entry_line_of place entry.now) }
+fn push_entry(
+    alloc: Global,
+    place: u64,
+    entry: &EntryView<'_>,
+    out: &mut Vec<u8>,
+) -> Result<(), NoMemory>
+    ensures { OnOk result (out.new.items ≡ out.old.items ++ entry_line_of place (shown entry.now)) }
 {
     push(b"E", out)?;
     push_number(place, out)?;
     push_number(entry.caller, out)?;
     push_number(entry.at.get(), out)?;
-    push_call(alloc, &entry.call, out)?;
+    push_shown(alloc, &entry.call, out)?;
     push(b" =", out)?;
     push_reply(entry.reply, out)?;
     push(b"\n", out)
@@ -170,18 +191,18 @@ fn push_entry(alloc: Global, place: u64, entry: &Entry, out: &mut Vec<u8>) -> Re
 /// message that it sends, numbered from `first`. At want of memory nothing is appended.
 pub fn entry_text(
     alloc: Global,
-    entry: &Entry,
+    entry: &EntryView<'_>,
     place: u64,
     first: u64,
     out: &mut Vec<u8>,
 ) -> Result<(), NoMemory>
-    requires { first + length entry.now.sent < 2 ^ 64 }
-    ensures ok { OnOk result (out.new.items ≡ out.old.items ++ entry_lines entry.now place first) }
+    requires { first + length entry.now.sent.now < 2 ^ 64 }
+    ensures ok { OnOk result (out.new.items ≡ out.old.items ++ entry_lines (shown entry.now) place first) }
     ensures err { OnErr result (out.new.items ≡ out.old.items) }
 {
     let mut text = Vec::new(alloc);
     push_entry(alloc, place, entry, &mut text)?;
-    push_all(first, entry.sent.items(), &mut text)?;
+    push_all(first, entry.sent, &mut text)?;
     out.extend_from_slice(&text)?;
     Ok(())
 }

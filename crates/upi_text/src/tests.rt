@@ -1,4 +1,5 @@
 use super::*;
+use entry_log::Log;
 use std::alloc::Global;
 use std::test::Fail;
 use upi_base::{
@@ -203,6 +204,38 @@ fn sum() -> Result<Paise, Fail> {
     Ok(Paise::of(3000).ok_or(NoMemory)?)
 }
 
+// Appends the lines of the first entry of a list, as if it stood at this place and its messages were
+// numbered from `first`.
+fn first_entry(
+    alloc: Global,
+    log: &Log,
+    place: u64,
+    first: u32,
+    out: &mut Vec<u8>,
+) -> Result<(), NoMemory> {
+    let Some(entry) = log.entry(1) else {
+        return Ok(());
+    };
+    if entry.sent.len() < 20 {
+        entry_text(alloc, &entry, place, u64::from(first), out)?;
+    }
+    Ok(())
+}
+
+// Appends the lines of an entry, as if it stood at this place and its messages were numbered from
+// `first`.
+fn push_lines(
+    alloc: Global,
+    entry: Entry,
+    place: u64,
+    first: u32,
+    out: &mut Vec<u8>,
+) -> Result<(), NoMemory> {
+    let mut log = Log::new(alloc);
+    log.append(entry)?;
+    first_entry(alloc, &log, place, first, out)
+}
+
 // The E line of an entry at place 12 that sends nothing.
 fn line_of(alloc: Global, call: Call, reply: Reply) -> Result<Vec<u8>, Fail> {
     let entry = Entry {
@@ -213,7 +246,7 @@ fn line_of(alloc: Global, call: Call, reply: Reply) -> Result<Vec<u8>, Fail> {
         sent: SentList::new(alloc),
     };
     let mut out = Vec::new(alloc);
-    entry_text(alloc, &entry, 12, 1, &mut out)?;
+    push_lines(alloc, entry, 12, 1, &mut out)?;
     Ok(out)
 }
 
@@ -331,9 +364,7 @@ fn sending(alloc: Global, sent: Vec<Sent>) -> Result<Vec<u8>, Fail> {
         sent: SentList::of(sent),
     };
     let mut out = Vec::from_slice(alloc, b"#\n")?;
-    if entry.sent.items().len() < 20 {
-        entry_text(alloc, &entry, 1, 9, &mut out)?;
-    }
+    push_lines(alloc, entry, 1, 9, &mut out)?;
     Ok(out)
 }
 
