@@ -5,11 +5,10 @@ use Rattle.std.proofs.lemmas.Bool.{and_from}
 use Rattle.std.proofs.lemmas.Bool.Decides.{nat_tests}
 use Rattle.std.proofs.lemmas.List.{length-append}
 use Rattle.upi_words.specs.Prelude.{Call, Setup, History}
-use Rattle.upi_model.specs.Chronicle.{Chronicle}
 use Rattle.upi_model.specs.History.{sent, sent_count, message_at}
-use Rattle.upi_model.specs.Legal.{has_room, names_known}
+use Rattle.upi_model.specs.Legal.{has_room, may_come, names_known}
 use Rattle.switch_core.specs.declared.fault.CoreFault.{CoreFault}
-use Rattle.switch_core.specs.Calls.{IsSwitch, IsKnown, missing, no_message, refused_by, with_call}
+use Rattle.switch_core.specs.Calls.{IsKnown, missing, no_message, refused_by}
 
 -- the count of messages
 count_is : (h : History) → length (sent h) ≡ sent_count h
@@ -53,9 +52,6 @@ names S h (Call.Lose n) known none = is_sent h n none
 names S h (Call.Late t) known none = refl
 names S h Call.Close known none = refl
 
--- a call that isn't refused leaves a switch a switch
-pub still_switch : (c : Chronicle) (call : Call) (now : ℕ) → IsSwitch c → IsKnown c.setup call → refused_by c.history call ≡ None → IsSwitch (with_call c call now)
-still_switch c call now is known none = record {
-  accepted = is.accepted;
-  legal = (is.legal, record { comes = and_from (names_known c.setup c.history call) (has_room c.history call) (names c.setup c.history call known (named c.history call none)) (room c.history call none); replied = refl; sends = refl });
-}
+-- a call that isn't refused may come
+pub free_comes : (S : Setup) (h : History) (c : Call) → IsKnown S c → refused_by h c ≡ None → may_come S h c ≡ true
+free_comes S h c known none = and_from (names_known S h c) (has_room h c) (names S h c known (named h c none)) (room h c none)

@@ -1,2 +1,3 @@
 pub mod Accepts
-pub mod HeldLemmas
+pub mod Entered
+pub mod Answered

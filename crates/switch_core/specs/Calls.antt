@@ -2,7 +2,6 @@
 use Rattle.std.specs.Prelude.{ℕ, ◌≡◌, ◌≢◌, ◌+◌, ◌-◌, ◌==◌, nat_lt, Bool, true, not, ◌||◌, if◌then◌else◌, [], ◌∷◌, Option, Some, None, Result, Ok, Err, length, slice_get}
 use Rattle.upi_words.specs.Prelude.{Call, Entry, Setup, History, Legal}
 use Rattle.upi_base.specs.declared.entry.Done.{Done}
-use Rattle.upi_base.specs.declared.setup.Setup.{Setup as Directory}
 use Rattle.upi_base.specs.Lists.{when}
 use Rattle.upi_base.specs.Setup.{has_psp, is_setup}
 use Rattle.upi_model.specs.Chronicle.{Chronicle}
@@ -27,11 +26,6 @@ IsRefusedAt S at = at.fault ≢ SetupFault.NoMemory → IsRefusal S at
 abbrev pub NewAnswer : Setup → Result Chronicle At → Type 0
 NewAnswer S (Ok c) = (is_setup S ≡ true) × (c ≡ record { setup = S; history = [] })
 NewAnswer S (Err at) = IsRefusedAt S at
-
--- what a switch keeps: its directory is of the setup over which the calls are played
-pub record IsCore (directory : Directory) (c : Chronicle) : Type 0 where
-  pub switch : IsSwitch c
-  pub same : directory.lines ≡ c.setup
 
 -- a PSP that is heard is of the setup
 abbrev pub is_known : Setup → Call → Bool

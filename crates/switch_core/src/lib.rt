@@ -2,8 +2,11 @@
 //! history. Contracts see the setup and the history, and nothing of how they are kept.
 #![tactic(auto)]
 
-mod balances;
+mod enter;
 pub mod fault;
+mod readers;
+mod refusal;
+mod shut;
 pub mod switch;
 #[cfg(test)]
 mod tests;

@@ -1,56 +1,47 @@
 //! The core: one switch, called by one caller.
-use crate::balances::{all_held, held};
+use crate::enter::enter;
 use crate::fault::CoreFault;
-use entry_log::EntryView;
+use core_shards::CoreShards;
+use entry_log::Log;
 use std::alloc::Global;
+use std::hash::RandomState;
 use std::marker::Model;
-use upi_base::{
-    AccountRef, Call, Done, Moment, NoMemory, Outcome, Sent, Setup, TxnId, TxnRow, account_named,
-};
-use upi_replay::Replay;
+use upi_base::{Call, Done, Moment, NoMemory, Setup};
 use vpa_directory::{At, Directory, SetupFault};
 
 /// A switch. Contracts see its setup, which is accepted, and its history, which is legal.
 #[derive(Drop)]
 pub struct Core {
-    alloc: Global,
-    directory: Directory,
-    replay: Replay,
+    pub(crate) alloc: Global,
+    pub(crate) tables: CoreShards,
+    pub(crate) log: Log,
 }
 
 impl Model for Core {
     ghost use Rattle.upi_model.specs.Chronicle.{Chronicle};
-    ghost use Rattle.switch_core.specs.Calls.{IsCore};
+    ghost use Rattle.core_shards.specs.Tables.{StandsAll};
 
     ghost Value = { Chronicle };
 
-    ghost view = { λ c. c.replay };
+    ghost view = { λ c. record { setup = c.tables.lines; history = c.log } };
 
-    ghost invariant = { λ c. IsCore c.directory c.replay };
+    ghost invariant = { λ c. StandsAll c.log c.tables };
 }
 
 impl Core {
-    ghost use Rattle.std.specs.Prelude.{◌≡◌, IfOk, OnErr, None, [], length, option_map};
-    ghost use Rattle.std.specs.Option.{option_copied};
-    ghost use Rattle.entry_log.specs.Views.{shown};
-    ghost use Rattle.upi_model.specs.History;
-    ghost use Rattle.upi_model.specs.DueList;
-    ghost use Rattle.upi_model.specs.Outcomes;
-    ghost use Rattle.upi_model.specs.Postings;
-    ghost use Rattle.upi_model.specs.Settlement;
-    ghost use Rattle.upi_base.specs.Setup.{accounts};
-    ghost use Rattle.switch_core.specs.Held;
+    ghost use Rattle.std.specs.Prelude.{◌≡◌, IfOk, OnErr, None, []};
     ghost use Rattle.switch_core.specs.Calls;
 
-    /// A switch over a setup, with no history yet. `alloc` serves what it will keep. It refuses
-    /// exactly where a line isn't accepted behind those before it, with the first such line; it
-    /// may also find no memory, and then the place says nothing.
-    pub fn new(alloc: Global, setup: Setup) -> Result<Core, At>
+    /// A switch over a setup, with no history yet. `alloc` serves what it will keep; accounts and
+    /// transactions are hashed with `hashes`, so whoever chooses their names can't choose them to
+    /// collide. It refuses exactly where a line isn't accepted behind those before it, with the
+    /// first such line; it may also find no memory, and then the place says nothing.
+    pub fn new(alloc: Global, hashes: RandomState, setup: Setup) -> Result<Core, At>
         ensures answer { Calls.NewAnswer setup.lines result }
         ensures switch { IfOk result Calls.IsSwitch }
     {
         let directory = Directory::build(alloc, setup)?;
-        match Core::over(alloc, directory) {
+        match Core::over(alloc, hashes, directory) {
             Ok(core) => Ok(core),
             Err(_) => Err(At {
                 at: 0,
@@ -60,45 +51,21 @@ impl Core {
     }
 
     /// A switch over the setup of a directory, with no history yet. `alloc` serves what it will
-    /// keep. It fails only for want of memory.
-    pub fn over(alloc: Global, directory: Directory) -> Result<Core, NoMemory>
+    /// keep; accounts and transactions are hashed with `hashes`. It fails only for want of memory.
+    pub fn over(
+        alloc: Global,
+        hashes: RandomState,
+        directory: Directory,
+    ) -> Result<Core, NoMemory>
         ensures new { IfOk result (λ c. c ≡ record { setup = directory.lines; history = [] }) }
         ensures switch { IfOk result Calls.IsSwitch }
     {
-        let lines = directory.setup().lines.copy(alloc)?;
+        let tables = CoreShards::new(alloc, hashes, directory)?;
         Ok(Core {
             alloc,
-            directory,
-            replay: Replay::new(alloc, lines),
+            tables,
+            log: Log::new(alloc),
         })
-    }
-
-    // Why a call is refused, if it is.
-    fn refusal(&self, call: &Call) -> Option<CoreFault>
-        ensures why { result ≡ Calls.refused_by self.now.history call.now }
-        ensures switch { Calls.IsSwitch self.now }
-    {
-        if !self.replay.has_room(call) {
-            return Some(CoreFault::Full {
-                len: self.replay.len(),
-            });
-        }
-        match call {
-            Call::Deliver(n) | Call::Lose(n) => self.missing(*n),
-            _ => None,
-        }
-    }
-
-    // That the message of a number wasn't sent, if it wasn't.
-    fn missing(&self, n: u64) -> Option<CoreFault>
-        ensures { result ≡ Calls.missing self.now.history n }
-    {
-        let sent = self.replay.sent_count();
-        if n == 0 || n > sent {
-            Some(CoreFault::NoMessage { n, sent })
-        } else {
-            None
-        }
     }
 
     // Takes a call that nothing refuses.
@@ -109,12 +76,10 @@ impl Core {
         ensures err { OnErr result (self.new ≡ self.old) }
         ensures switch { Calls.IsSwitch self.new }
     {
-        let step = self.replay.plan(0, call, now)?;
-        let reply = step.entry.reply;
-        self.replay.commit(step)?;
+        let reply = enter(self.alloc, &mut self.tables, &mut self.log, call, now)?;
         Ok(Done {
             reply,
-            place: self.replay.len(),
+            place: self.log.len(),
         })
     }
 
@@ -130,100 +95,5 @@ impl Core {
             Some(fault) => Err(fault),
             None => Ok(self.accept(call, now)?),
         }
-    }
-
-    /// The setup, with its tables.
-    pub fn directory(&self) -> &Directory
-        ensures { result.now.lines ≡ self.now.setup }
-    {
-        &self.directory
-    }
-
-    /// How many entries there are.
-    pub fn len(&self) -> u64
-        ensures { result ≡ length self.now.history }
-    {
-        self.replay.len()
-    }
-
-    /// How many messages were sent.
-    pub fn sent_count(&self) -> u64
-        ensures { result ≡ History.sent_count self.now.history }
-    {
-        self.replay.sent_count()
-    }
-
-    /// Whether the switch was closed.
-    pub fn is_closed(&self) -> bool
-        ensures { result ≡ History.is_closed self.now.history }
-    {
-        self.replay.is_closed()
-    }
-
-    /// The entry at a place, counted from 1; `None` exactly where there is none.
-    pub fn entry(&self, k: u64) -> Option<EntryView<'_>>
-        ensures { option_map shown result ≡ Calls.entry_at self.now.history k }
-    {
-        if k == 0 {
-            return None;
-        }
-        match self.replay.entries().get(k as usize - 1) {
-            Some(entry) => Some(EntryView::of(entry)),
-            None => None,
-        }
-    }
-
-    /// The message of a number, counted from 1; `None` exactly where it wasn't sent.
-    pub fn message(&self, n: u64) -> Option<&Sent>
-        ensures { option_copied result ≡ History.message_at self.now.history n }
-    {
-        self.replay.message(n)
-    }
-
-    /// The outcome of a transaction, if it has one.
-    pub fn outcome(&self, txn: &TxnId) -> Option<Outcome>
-        ensures { result ≡ Outcomes.outcome_of self.now.setup txn.now self.now.history }
-    {
-        self.replay.outcome(txn)
-    }
-
-    /// The money in flight, in paise: what was debited and neither credited nor returned.
-    pub fn flight(&self) -> u128
-        ensures { result ≡ Postings.flight self.now.setup self.now.history }
-    {
-        self.replay.flight()
-    }
-
-    /// The transactions whose due moment isn't after this one, with their due moments: by these,
-    /// then by the bytes of their names.
-    pub fn due(&self, now: u64) -> Result<Vec<(u64, TxnId)>, NoMemory>
-        ensures { IfOk result (λ v. v.items ≡ DueList.due_list self.now.setup self.now.history now) }
-    {
-        self.replay.due(now)
-    }
-
-    /// The transactions as settlement and the report see them, in opening order.
-    pub fn rows(&self) -> Result<Vec<TxnRow>, NoMemory>
-        ensures { IfOk result (λ v. v.items ≡ Settlement.txn_rows self.now.setup self.now.history) }
-    {
-        self.replay.rows()
-    }
-
-    /// What an account holds, in paise; `None` exactly where the setup has no such account.
-    pub fn balance(&self, ac: &AccountRef) -> Option<u64>
-        ensures { result ≡ Held.balance_at self.now.setup self.now.history ac.now }
-    {
-        match account_named(self.replay.lines(), ac) {
-            Some(account) => Some(held(&self.replay, &account)),
-            None => None,
-        }
-    }
-
-    /// The accounts and what they hold, in setup order.
-    pub fn balances(&self) -> Result<Vec<(AccountRef, u64)>, NoMemory>
-        ensures { IfOk result (λ v. v.items ≡ Held.held_by self.now.setup self.now.history (accounts self.now.setup)) }
-    {
-        let all = all_held(self.alloc, &self.replay)?;
-        Ok(all)
     }
 }

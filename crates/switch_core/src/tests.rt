@@ -1,6 +1,8 @@
 //! An approval that comes late, with no Late before it.
 use super::*;
 use std::alloc::Global;
+use std::hash::RandomState;
+use std::test::Fail;
 use upi_base::{
     AccountRef, Addr, AuthResp, BankCode, Boxed, Call, Code, Head, Input, Kind, Message, Minutes,
     Moment, MsgId, OrgId, Outcome, Paise, PayReq, Policy, PspName, Reply, Setup, SetupLine,
@@ -48,10 +50,12 @@ fn lines(alloc: Global) -> Option<SetupLines> {
     Some(lines)
 }
 
-fn switch(alloc: Global) -> Option<Core> {
-    let start = Moment::of(START)?;
-    let lines = lines(alloc)?;
-    Core::new(alloc, Setup { start, lines }).ok()
+fn switch(rt: &HostRuntime) -> Result<Core, Fail> {
+    let start = Moment::of(START).ok_or("a moment")?;
+    let lines = lines(rt.alloc()).ok_or("lines")?;
+    let hashes = RandomState::new(rt)?;
+    let core = Core::new(rt.alloc(), hashes, Setup { start, lines }).ok();
+    Ok(core.ok_or("a switch")?)
 }
 
 fn head() -> Option<Head> {
@@ -108,27 +112,35 @@ fn hear(core: &mut Core, psp: &[u8], message: Message, now: Moment) -> Option<Re
     Some(core.apply(Call::Hear { psp, input }, now).ok()?.reply)
 }
 
-// The replies to the collect, to its approval a minute later, and to a Late then.
-fn replies(alloc: Global, core: &mut Core) -> Option<[Reply; 3]> {
+// The replies to the collect, to its approval a minute later, to a Late then, and to the Close.
+fn replies(alloc: Global, core: &mut Core) -> Option<[Reply; 4]> {
     let due = Moment::of(START + 60)?;
     let opened = hear(core, b"beta", collect(alloc)?, Moment::of(START)?)?;
     let approved = hear(core, b"alpha", approval(alloc)?, due)?;
     let late = core.apply(Call::Late(TxnId::read(b"C1")?), due).ok()?;
-    Some([opened, approved, late.reply])
+    let closed = core.apply(Call::Close, due).ok()?;
+    Some([opened, approved, late.reply, closed.reply])
 }
 
-// The replies, how the collect ends, and the money in flight then.
-fn ending(alloc: Global) -> Option<(Option<[Reply; 3]>, Option<Outcome>, u128)> {
+// How the collect ends, how many entries and messages there are, and the money in flight.
+fn ending(core: &Core) -> Option<(Option<Outcome>, u64, u64, u128)> {
     let name = TxnId::read(b"C1")?;
-    let mut core = switch(alloc)?;
-    let replies = replies(alloc, &mut core);
-    Some((replies, core.outcome(&name), core.flight()))
+    Some((core.outcome(&name), core.len(), core.sent_count(), core.flight()))
 }
 
 #[test]
-fn an_approval_at_the_due_moment_is_late(rt: HostRuntime) {
+fn an_approval_at_the_due_moment_is_late(rt: HostRuntime) -> Result<(), Fail> {
     let expired = Code::Expired;
-    let replies = [Reply::Ack(None), Reply::Ack(Some(expired)), Reply::Acted];
-    let outcome = Some(Outcome::Failure(expired));
-    assert!(rt; ending(rt.alloc()) == Some((Some(replies), outcome, 0)));
+    let expected = [
+        Reply::Ack(None),
+        Reply::Ack(Some(expired)),
+        Reply::Acted,
+        Reply::Closed,
+    ];
+    let mut core = switch(&rt)?;
+    let replies = replies(rt.alloc(), &mut core);
+    let ending = ending(&core);
+    assert!(rt; replies == Some(expected));
+    assert!(rt; ending == Some((Some(Outcome::Failure(expired)), 4, 3, 0)));
+    Ok(())
 }
