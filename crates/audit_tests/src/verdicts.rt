@@ -1,6 +1,7 @@
 //! Journals, read with one line changed, and what is said of them.
 use crate::{examples, spoiled};
 use std::alloc::Global;
+use std::hash::RandomState;
 use std::test::Fail;
 use upi_audit::{Audit, EngineFault, Verdict, write_verdict};
 use upi_base::{NoMemory, Why, write_number};
@@ -127,12 +128,13 @@ fn push_said(
 // What is said of a journal with its change.
 fn said(
     alloc: Global,
+    hashes: RandomState,
     journal: &str,
     change: &Change<'_>,
     out: &mut Vec<u8>,
 ) -> Result<(), NoMemory> {
     let mut line = Vec::new(alloc);
-    let mut audit = Audit::new(alloc);
+    let mut audit = Audit::new(alloc, hashes);
     push_said(&mut audit, journal, change, &mut line, out)
 }
 
@@ -154,24 +156,31 @@ fn is_line(text: &[u8], line: &str) -> bool {
 }
 
 // Whether a row holds of a journal.
-fn holds(alloc: Global, journal: &str, row: &str, out: &mut Vec<u8>) -> Result<bool, NoMemory> {
+fn holds(
+    alloc: Global,
+    hashes: RandomState,
+    journal: &str,
+    row: &str,
+    out: &mut Vec<u8>,
+) -> Result<bool, NoMemory> {
     let Some((says, change)) = split_row(row) else {
         return Ok(false);
     };
     out.clear();
-    said(alloc, journal, &change, out)?;
+    said(alloc, hashes, journal, &change, out)?;
     Ok(is_line(out, says))
 }
 
 // The first row of a table that doesn't hold of a journal.
 fn first_wrong<'a>(
     alloc: Global,
+    hashes: RandomState,
     journal: &str,
     table: &'a str,
 ) -> Result<Option<&'a str>, NoMemory> {
     let mut out = Vec::new(alloc);
     for row in table.lines() {
-        if !holds(alloc, journal, row, &mut out)? {
+        if !holds(alloc, hashes, journal, row, &mut out)? {
             return Ok(Some(row));
         }
     }
@@ -181,32 +190,33 @@ fn first_wrong<'a>(
 #[test]
 fn journals_are_judged(rt: HostRuntime) -> Result<(), Fail> {
     let alloc = rt.alloc();
+    let hashes = RandomState::new(&rt)?;
     assert_eq!(rt;
-        first_wrong(alloc, examples::ONE_PAYMENT, spoiled::PAID)?,
+        first_wrong(alloc, hashes, examples::ONE_PAYMENT, spoiled::PAID)?,
         None
     );
     assert_eq!(rt;
-        first_wrong(alloc, examples::ONE_PAYMENT, spoiled::PAID_WORDS)?,
+        first_wrong(alloc, hashes, examples::ONE_PAYMENT, spoiled::PAID_WORDS)?,
         None
     );
     assert_eq!(rt;
-        first_wrong(alloc, examples::DEBIT_REVERSED, spoiled::REVERSED)?,
+        first_wrong(alloc, hashes, examples::DEBIT_REVERSED, spoiled::REVERSED)?,
         None
     );
     assert_eq!(rt;
-        first_wrong(alloc, examples::PAYMENT_REPEATED, spoiled::REPEATED)?,
+        first_wrong(alloc, hashes, examples::PAYMENT_REPEATED, spoiled::REPEATED)?,
         None
     );
     assert_eq!(rt;
-        first_wrong(alloc, examples::COLLECT_APPROVED, spoiled::APPROVED)?,
+        first_wrong(alloc, hashes, examples::COLLECT_APPROVED, spoiled::APPROVED)?,
         None
     );
     assert_eq!(rt;
-        first_wrong(alloc, examples::COLLECT_TOO_LATE, spoiled::TOO_LATE)?,
+        first_wrong(alloc, hashes, examples::COLLECT_TOO_LATE, spoiled::TOO_LATE)?,
         None
     );
     assert_eq!(rt;
-        first_wrong(alloc, examples::CREDIT_DEEMED, spoiled::DEEMED)?,
+        first_wrong(alloc, hashes, examples::CREDIT_DEEMED, spoiled::DEEMED)?,
         None
     );
     Ok(())

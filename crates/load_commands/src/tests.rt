@@ -1,5 +1,6 @@
 use super::*;
 use std::alloc::Global;
+use std::hash::RandomState;
 use std::test::Fail;
 use upi_io::{MemSink, Status};
 
@@ -9,19 +10,25 @@ const SUMMED_UP: &[u8] =
 
 // How a load of one payment from seed 1 ends, where the write of that number fails, counted from 1, and
 // whether the line of it, or nothing, was written.
-fn loaded(alloc: Global, bad_write: u64, written: &[u8]) -> Result<(Status, bool), Fail> {
+fn loaded(
+    alloc: Global,
+    hashes: RandomState,
+    bad_write: u64,
+    written: &[u8],
+) -> Result<(Status, bool), Fail> {
     let bad_writes = Vec::from_slice(alloc, &[bad_write])?;
     let mut sink = MemSink::new(alloc, 1000, 40, bad_writes)?;
-    let status = run_load_summary(alloc, 1, 1, &mut sink);
+    let status = run_load_summary(alloc, hashes, 1, 1, &mut sink);
     Ok((status, sink.taken() == written))
 }
 
 #[test]
 fn a_load_of_one_payment(rt: HostRuntime) -> Result<(), Fail> {
     let alloc = rt.alloc();
-    assert!(rt; loaded(alloc, 0, SUMMED_UP)? == (Status::Done, true));
-    assert!(rt; loaded(alloc, 1, b"")? == (Status::WriteFault, true));
-    assert!(rt; loaded(alloc, 3, &SUMMED_UP[..80])? == (Status::WriteFault, true));
+    let hashes = RandomState::new(&rt)?;
+    assert!(rt; loaded(alloc, hashes, 0, SUMMED_UP)? == (Status::Done, true));
+    assert!(rt; loaded(alloc, hashes, 1, b"")? == (Status::WriteFault, true));
+    assert!(rt; loaded(alloc, hashes, 3, &SUMMED_UP[..80])? == (Status::WriteFault, true));
     Ok(())
 }
 

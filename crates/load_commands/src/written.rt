@@ -9,6 +9,7 @@ use crate::output::put;
 use load_generator::{MAX_COUNT, MAX_SEED, generate};
 use load_run::{LoadFault, run_load, write_summary};
 use std::alloc::Global;
+use std::hash::RandomState;
 use upi_base::Summary;
 use upi_io::{Sink, Status};
 
@@ -51,20 +52,27 @@ fn put_summary<K: Sink>(
     }
 }
 
-/// Runs a load of so many payments, drawn from a seed, and writes the line that sums it up.
+/// Runs a load of so many payments, drawn from a seed, and writes the line that sums it up. Names of
+/// transactions are hashed with `hashes`.
 ///
 /// Conditions: at most 50,000 payments, and a seed of at most 2,147,483,647. `BadLine` comes exactly
 /// where a script refuses a line of the load, at the first such line; none is known. `WriteFault` comes
 /// only where the sink failed; a front of the line is written then. `NoMemory` may come at any time
 /// before the first byte is written.
-pub fn run_load_summary<K: Sink>(alloc: Global, count: u32, seed: u32, sink: &mut K) -> Status
+pub fn run_load_summary<K: Sink>(
+    alloc: Global,
+    hashes: RandomState,
+    count: u32,
+    seed: u32,
+    sink: &mut K,
+) -> Status
     requires count { count ≤ MAX_COUNT }
     requires seed { seed ≤ MAX_SEED }
     ensures loads { Loads count seed (K.taken sink.old) (K.taken sink.new) result }
     ensures write { result ≡ Status.WriteFault → Rose (K.faults sink.old) (K.faults sink.new) }
     ensures writes { K.faults sink.old ≤ K.faults sink.new }
 {
-    match run_load(alloc, count, seed) {
+    match run_load(alloc, hashes, count, seed) {
         Ok(summary) => put_summary(alloc, count, seed, &summary, sink),
         Err(LoadFault::Refused { line, field, why }) => Status::BadLine { line, field, why },
         Err(LoadFault::NoMemory) => Status::NoMemory,

@@ -10,6 +10,7 @@ ghost use Rattle.load_run.specs.Summaries.{LoadAnswer};
 use load_generator::{MAX_COUNT, MAX_SEED, SETUP_LINES, Sends, push_setup_line};
 use script_engine::Engine;
 use std::alloc::Global;
+use std::hash::RandomState;
 use upi_base::{EngineFault, NoMemory, Summary, Why};
 
 /// Why a load isn't run to its end.
@@ -158,18 +159,23 @@ impl Runner {
 
 /// Plays the lines of a load as a script's, and sums up the history that they make. The network takes
 /// its turns (`RUN 7 5`, `TICK 30`) behind every hundredth payment and behind the last; then four times
-/// more, and then it closes.
+/// more, and then it closes. Names of transactions are hashed with `hashes`.
 ///
 /// Conditions: at most 50,000 payments, and a seed of at most 2,147,483,647. `Refused` comes exactly
 /// where a script refuses one of the lines, with the first such line; `NoMemory` may come at any time.
-pub fn run_load(alloc: Global, count: u32, seed: u32) -> Result<Summary, LoadFault>
+pub fn run_load(
+    alloc: Global,
+    hashes: RandomState,
+    count: u32,
+    seed: u32,
+) -> Result<Summary, LoadFault>
     requires count { count ≤ MAX_COUNT }
     requires seed { seed ≤ MAX_SEED }
     ensures answer { LoadAnswer count seed result }
 {
     let mut line = Vec::new(alloc);
     let mut runner = Runner {
-        engine: Engine::new(alloc),
+        engine: Engine::new(alloc, hashes),
         played: 0,
         text: Vec::new(alloc),
     };

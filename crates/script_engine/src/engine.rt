@@ -4,6 +4,7 @@ ghost use Rattle.script_engine.specs.calls.Ending.{is_no_memory};
 
 use crate::player::Player;
 use std::alloc::Global;
+use std::hash::RandomState;
 use std::marker::Model;
 use std::mem;
 use upi_base::{EngineFault, NoMemory, Summary, Why};
@@ -15,6 +16,7 @@ use upi_text::{SetupStep, SetupText};
 #[derive(Drop)]
 pub struct Engine {
     alloc: Global,
+    hashes: RandomState,
     setup: SetupText,
     player: Option<Player>,
     reader: Reader,
@@ -57,13 +59,15 @@ impl Engine {
     ghost use Rattle.script_engine.specs.End.{summary_of};
     ghost use Rattle.script_engine.specs.calls.Ending.{FinishAnswer, SettledAnswer};
 
-    /// An engine that has read nothing. `alloc` serves all that it keeps.
-    pub fn new(alloc: Global) -> Engine
+    /// An engine that has read nothing. `alloc` serves all that it keeps; names that senders choose
+    /// are hashed with `hashes`.
+    pub fn new(alloc: Global, hashes: RandomState) -> Engine
         ensures fresh { result ≡ fresh }
         ensures holds { IsTrue result }
     {
         Engine {
             alloc,
+            hashes,
             setup: SetupText::new(alloc),
             player: None,
             reader: Reader::new(alloc),
@@ -81,7 +85,7 @@ impl Engine {
             SetupStep::More => Ok(()),
             SetupStep::Opened => {
                 let text = mem::replace(&mut self.setup, SetupText::new(self.alloc));
-                let player = Player::new(self.alloc, text.into_directory())?;
+                let player = Player::new(self.alloc, self.hashes, text.into_directory())?;
                 self.player = Some(player);
                 Ok(())
             }

@@ -12,6 +12,7 @@ use crate::pending::Pending;
 use entry_log::EntryView;
 use recon_report::report;
 use std::alloc::Global;
+use std::hash::RandomState;
 use std::marker::Model;
 use switch_core::{Core, CoreFault};
 use upi_base::{Call, Done, EngineFault, MAX_ENTRIES, Moment, NoMemory, Summary, write_number};
@@ -143,13 +144,18 @@ impl Player {
     ghost use Rattle.recon_report.specs.Report.{report_text};
     ghost use Rattle.script_engine.specs.calls.Playing.{IsOpenPlay, opened_play};
 
-    /// A switch that was just opened over the setup of a directory.
-    pub(crate) fn new(alloc: Global, directory: Directory) -> Result<Player, NoMemory>
+    /// A switch that was just opened over the setup of a directory. Names that senders choose are
+    /// hashed with `hashes`.
+    pub(crate) fn new(
+        alloc: Global,
+        hashes: RandomState,
+        directory: Directory,
+    ) -> Result<Player, NoMemory>
         ensures play { IfOk result (λ p. p ≡ opened_play directory) }
         ensures sound { IfOk result IsOpenPlay }
     {
         let start = directory.setup().start;
-        let core = Core::over(alloc, directory)?;
+        let core = Core::over(alloc, hashes, directory)?;
         Ok(Player {
             alloc,
             start,

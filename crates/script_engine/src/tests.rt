@@ -1,6 +1,7 @@
 //! What an engine counts.
 use super::*;
 use std::alloc::Global;
+use std::hash::RandomState;
 use std::test::Fail;
 use upi_base::Summary;
 
@@ -19,14 +20,14 @@ fn count(alloc: Global, engine: &mut Engine) -> Result<Summary, Fail> {
 }
 
 // What it comes to on a new one.
-fn counted(alloc: Global) -> Result<Summary, Fail> {
-    let mut engine = Engine::new(alloc);
+fn counted(alloc: Global, hashes: RandomState) -> Result<Summary, Fail> {
+    let mut engine = Engine::new(alloc, hashes);
     count(alloc, &mut engine)
 }
 
 #[test]
 fn ends_items_and_flight_are_counted(rt: HostRuntime) -> Result<(), Fail> {
-    let summary = counted(rt.alloc())?;
+    let summary = counted(rt.alloc(), RandomState::new(&rt)?)?;
     let expected = Summary {
         success: 1,
         failure: 1,

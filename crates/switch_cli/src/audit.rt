@@ -9,6 +9,7 @@ ghost use Rattle.switch_cli.specs.calls.AuditSteps.{Takes, AuditSteps, halt_stat
 
 use crate::script::{play_status, read_status};
 use std::alloc::Global;
+use std::hash::RandomState;
 use upi_audit::{Audit, write_verdict};
 use upi_base::{EngineFault, Verdict};
 use upi_io::{Line, LineFault, LineReader, Sink, Source, Status, write_all};
@@ -153,7 +154,12 @@ fn audit_lines<S: Source, K: Sink>(
 }
 
 /// Audits the journal that the lines of a source are. All of it is read before its verdict is written.
-pub(crate) fn run_audit<S: Source, K: Sink>(alloc: Global, source: &mut S, sink: &mut K) -> Status
+pub(crate) fn run_audit<S: Source, K: Sink>(
+    alloc: Global,
+    hashes: RandomState,
+    source: &mut S,
+    sink: &mut K,
+) -> Status
     ensures audits { Audits (S.left source.old) (S.left source.new) (K.taken sink.old) (K.taken sink.new) result }
     ensures read { result ≡ Status.ReadFault → Rose (S.faults source.old) (S.faults source.new) }
     ensures write { result ≡ Status.WriteFault → Rose (K.faults sink.old) (K.faults sink.new) }
@@ -163,6 +169,6 @@ pub(crate) fn run_audit<S: Source, K: Sink>(alloc: Global, source: &mut S, sink:
     ensures sure { S.sure source.old ≡ true → result ≢ Status.ReadFault }
     ensures usage { result ≢ Status.Usage }
 {
-    let mut audit = Audit::new(alloc);
+    let mut audit = Audit::new(alloc, hashes);
     audit_lines(&mut audit, alloc, source, sink)
 }

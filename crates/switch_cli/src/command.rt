@@ -10,11 +10,13 @@ use crate::script::run_script;
 use command_words::{Command, command_of};
 use load_commands::{run_generate, run_load_summary};
 use std::alloc::Global;
+use std::hash::RandomState;
 use upi_io::{Sink, Source, Status, Words};
 
 // Does what a command asks for.
 fn perform<S: Source, K: Sink>(
     alloc: Global,
+    hashes: RandomState,
     command: Command,
     source: &mut S,
     sink: &mut K,
@@ -31,14 +33,15 @@ fn perform<S: Source, K: Sink>(
     ensures sure { S.sure source.old ≡ true → result ≢ Status.ReadFault }
 {
     match command {
-        Command::Script => run_script(alloc, source, sink),
-        Command::Audit => run_audit(alloc, source, sink),
+        Command::Script => run_script(alloc, hashes, source, sink),
+        Command::Audit => run_audit(alloc, hashes, source, sink),
         Command::Generate(size) => run_generate(alloc, size.count, size.seed, sink),
-        Command::Load(size) => run_load_summary(alloc, size.count, size.seed, sink),
+        Command::Load(size) => run_load_summary(alloc, hashes, size.count, size.seed, sink),
     }
 }
 
-/// Does what the words ask for, and answers how that ended:
+/// Does what the words ask for, and answers how that ended. Names that senders choose are hashed with
+/// `hashes`; nothing that is written depends on them.
 ///
 /// - `script`: the lines of the source are run as a script, and what they write goes into the sink as
 ///   they are played, with the report at the end.
@@ -51,7 +54,13 @@ fn perform<S: Source, K: Sink>(
 /// first line outside the grammar, `TooLong` at the first line of more than 65,536 bytes; what the
 /// lines of a script before it write is written then, and nothing more. `ReadFault` and `WriteFault`
 /// come only where the source or the sink failed. `NoMemory` may come at any time.
-pub fn run<S: Source, K: Sink>(alloc: Global, words: &Words, source: &mut S, sink: &mut K) -> Status
+pub fn run<S: Source, K: Sink>(
+    alloc: Global,
+    hashes: RandomState,
+    words: &Words,
+    source: &mut S,
+    sink: &mut K,
+) -> Status
     ensures usage { result ≡ Status.Usage ↔ (command_of words.now ≡ None) }
     ensures nothing { result ≡ Status.Usage → (source.new ≡ source.old) × (sink.new ≡ sink.old) }
     // What was written and why it ended is what the command calls for, over the lines of the source.
@@ -73,7 +82,7 @@ pub fn run<S: Source, K: Sink>(alloc: Global, words: &Words, source: &mut S, sin
     ensures sure { S.sure source.old ≡ true → result ≢ Status.ReadFault }
 {
     match command_of(words) {
-        Some(command) => perform(alloc, command, source, sink),
+        Some(command) => perform(alloc, hashes, command, source, sink),
         None => Status::Usage,
     }
 }

@@ -8,6 +8,7 @@ ghost use Rattle.switch_cli.specs.calls.Steps.{PlaysAs, played_next, read_status
 
 use script_engine::{Engine, EngineFault};
 use std::alloc::Global;
+use std::hash::RandomState;
 use upi_base::Why;
 use upi_io::{Line, LineFault, LineReader, Sink, Source, Status, Wrote, write_all};
 
@@ -167,7 +168,12 @@ fn play_lines<S: Source, K: Sink>(
 }
 
 /// Runs a script over the lines of a source. What a line writes is written when it was played.
-pub(crate) fn run_script<S: Source, K: Sink>(alloc: Global, source: &mut S, sink: &mut K) -> Status
+pub(crate) fn run_script<S: Source, K: Sink>(
+    alloc: Global,
+    hashes: RandomState,
+    source: &mut S,
+    sink: &mut K,
+) -> Status
     ensures ran { Ran (S.left source.old) (S.left source.new) (K.taken sink.old) (K.taken sink.new) result }
     ensures read { result ≡ Status.ReadFault → Rose (S.faults source.old) (S.faults source.new) }
     ensures write { result ≡ Status.WriteFault → Rose (K.faults sink.old) (K.faults sink.new) }
@@ -177,6 +183,6 @@ pub(crate) fn run_script<S: Source, K: Sink>(alloc: Global, source: &mut S, sink
     ensures sure { S.sure source.old ≡ true → result ≢ Status.ReadFault }
     ensures usage { result ≢ Status.Usage }
 {
-    let mut engine = Engine::new(alloc);
+    let mut engine = Engine::new(alloc, hashes);
     play_lines(&mut engine, alloc, source, sink)
 }

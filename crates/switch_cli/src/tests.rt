@@ -8,9 +8,21 @@ use super::*;
 use reasons::{CALLS, FIRST, SETUP_LINES};
 use rows::{LATE_ROWS, OPENED, ROWS};
 use std::alloc::Global;
+use std::hash::RandomState;
+use std::io;
+use std::random::RandomSource;
 use std::test::Fail;
 use upi_base::{Why, write_number};
 use upi_io::{MemSink, MemSource};
+
+// Keys that are the same at each run: what is written doesn't depend on them.
+struct SameKeys;
+
+impl RandomSource for SameKeys {
+    fn fill_bytes(&self, _buf: &mut [u8]) -> io::Result<()> {
+        Ok(())
+    }
+}
 
 const START: &str = "START 2024-01-01T05:30:00+05:30\n";
 
@@ -98,7 +110,8 @@ fn ran(alloc: Global, input: &[u8], cut: Cut) -> Result<Ending, Fail> {
     let mut source = MemSource::new(Vec::from_slice(alloc, input)?, piece, bad_reads);
     let room = input.len().saturating_mul(2).max(100_000);
     let mut sink = MemSink::new(alloc, room, piece, bad_writes)?;
-    let status = run(alloc, &Words::of(list), &mut source, &mut sink);
+    let hashes = RandomState::new(&SameKeys)?;
+    let status = run(alloc, hashes, &Words::of(list), &mut source, &mut sink);
     Ok(Ending {
         status,
         text: Vec::from_slice(alloc, sink.taken())?,
@@ -476,7 +489,8 @@ fn called(alloc: Global, words: &[&str]) -> Result<(Status, usize), Fail> {
     let input = Vec::from_slice(alloc, OPENED.as_bytes())?;
     let mut source = MemSource::new(input, 1, Vec::new(alloc));
     let mut sink = MemSink::new(alloc, 1000, 1, Vec::new(alloc))?;
-    let status = run(alloc, &Words::of(list), &mut source, &mut sink);
+    let hashes = RandomState::new(&SameKeys)?;
+    let status = run(alloc, hashes, &Words::of(list), &mut source, &mut sink);
     Ok((status, sink.taken().len()))
 }
 

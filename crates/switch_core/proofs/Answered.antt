@@ -1,7 +1,7 @@
 -- The replies after a Close.
-use Rattle.std.proofs.Common.{◌≡◌, ℕ, Bool, true, false, Option, Some, None, refl, sym, ap, ◌∙◌}
-use Rattle.upi_words.specs.Prelude.{Body, Call, Event, Input, Message, Party, Reply, Said, Sent, Setup, History, Text, Code, is_closed}
-use Rattle.upi_model.specs.History.{delivered, event_of, message_at, read_message, said_by}
+use Rattle.std.proofs.Common.{◌≡◌, ℕ, Bool, true, false, Option, Some, None, refl, sym, ◌∙◌}
+use Rattle.upi_words.specs.Prelude.{Body, Call, Event, Party, Sent, Setup, History, Text, Code, is_closed}
+use Rattle.upi_model.specs.History.{delivered, event_of, message_at, read_message}
 use Rattle.upi_model.specs.Postings.{Answers}
 use Rattle.upi_model.specs.Replies.{no, order_answer, reply_by, reply_shut, reply_to, txn_of}
 use Rattle.upi_model.specs.Standing.{Standing, is_due_on, sendings, shard_opened, standing}

@@ -7,7 +7,7 @@ use Rattle.upi_model.specs.History.{is_close}
 use Rattle.upi_model.specs.Legal.{entry_of, may_come}
 use Rattle.upi_model.specs.Postings.{Answers}
 use Rattle.upi_model.specs.Replies.{order_answer, reply_by, reply_running, reply_to}
-use Rattle.upi_model.specs.Sending.{sends_by, sent_by}
+use Rattle.upi_model.specs.Sending.{sent_by}
 use Rattle.upi_model.specs.Standing.{Standing, is_due_on, sendings, shard_opened, standing}
 use Rattle.upi_laws.proofs.Gathered.{close_laws}
 use Rattle.core_shards.specs.declared.step.{Step.Step}

@@ -52,11 +52,7 @@ impl Core {
 
     /// A switch over the setup of a directory, with no history yet. `alloc` serves what it will
     /// keep; accounts and transactions are hashed with `hashes`. It fails only for want of memory.
-    pub fn over(
-        alloc: Global,
-        hashes: RandomState,
-        directory: Directory,
-    ) -> Result<Core, NoMemory>
+    pub fn over(alloc: Global, hashes: RandomState, directory: Directory) -> Result<Core, NoMemory>
         ensures new { IfOk result (λ c. c ≡ record { setup = directory.lines; history = [] }) }
         ensures switch { IfOk result Calls.IsSwitch }
     {

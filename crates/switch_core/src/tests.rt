@@ -125,7 +125,12 @@ fn replies(alloc: Global, core: &mut Core) -> Option<[Reply; 4]> {
 // How the collect ends, how many entries and messages there are, and the money in flight.
 fn ending(core: &Core) -> Option<(Option<Outcome>, u64, u64, u128)> {
     let name = TxnId::read(b"C1")?;
-    Some((core.outcome(&name), core.len(), core.sent_count(), core.flight()))
+    Some((
+        core.outcome(&name),
+        core.len(),
+        core.sent_count(),
+        core.flight(),
+    ))
 }
 
 #[test]

@@ -2,6 +2,7 @@
 #![tactic(auto)]
 
 use std::alloc::Global;
+use std::hash::RandomState;
 use std::io::{ErrorKind, Write};
 use std::process::ExitCode;
 use std::rt::Env;
@@ -34,10 +35,12 @@ fn main(rt: HostRuntime) -> ExitCode {
     let mut sink = Writing::new(io::writer(&rt));
     // The memory of the line is taken before anything is read, so that no end goes unsaid for want of it.
     let mut line = Vec::new(alloc);
-    let status = match (line.reserve(LINE_ROOM), words(&rt, alloc)) {
-        (Ok(()), Ok(words)) => run(alloc, &words, &mut source, &mut sink),
-        (Ok(()), Err(status)) => status,
-        (Err(_), _) => Status::NoMemory,
+    let status = match (line.reserve(LINE_ROOM), RandomState::new(&rt)) {
+        (Ok(()), Ok(hashes)) => match words(&rt, alloc) {
+            Ok(words) => run(alloc, hashes, &words, &mut source, &mut sink),
+            Err(status) => status,
+        },
+        _ => Status::NoMemory,
     };
     let text: &[u8] = match status.write_line(&mut line) {
         Ok(()) => &line,

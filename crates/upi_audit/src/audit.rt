@@ -4,6 +4,7 @@ ghost use Rattle.upi_audit.specs.calls.Trying.{is_no_memory};
 
 use crate::judge::Judge;
 use std::alloc::Global;
+use std::hash::RandomState;
 use std::marker::Model;
 use std::mem;
 use upi_base::{EngineFault, NoMemory, Verdict, Why};
@@ -14,6 +15,7 @@ use upi_text::{SetupStep, SetupText};
 #[derive(Drop)]
 pub struct Audit {
     alloc: Global,
+    hashes: RandomState,
     setup: SetupText,
     judge: Option<Judge>,
     failed: bool,
@@ -53,12 +55,14 @@ impl Audit {
     ghost use Rattle.upi_audit.specs.calls.Keeping.{HasRead, IsOpenedOnce};
     ghost use Rattle.upi_audit.specs.calls.Trying.{SetupLineAnswer, TryAnswer};
 
-    /// An audit that has read nothing. `alloc` serves all that it keeps.
-    pub fn new(alloc: Global) -> Audit
+    /// An audit that has read nothing. `alloc` serves all that it keeps; names that senders choose
+    /// are hashed with `hashes`.
+    pub fn new(alloc: Global, hashes: RandomState) -> Audit
         ensures { HasRead blank_journal result }
     {
         Audit {
             alloc,
+            hashes,
             setup: SetupText::new(alloc),
             judge: None,
             failed: false,
@@ -75,7 +79,7 @@ impl Audit {
             SetupStep::More => Ok(()),
             SetupStep::Opened => {
                 let text = mem::replace(&mut self.setup, SetupText::new(self.alloc));
-                let judge = Judge::new(self.alloc, text.into_directory())?;
+                let judge = Judge::new(self.alloc, self.hashes, text.into_directory())?;
                 self.judge = Some(judge);
                 Ok(())
             }

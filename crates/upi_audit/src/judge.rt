@@ -11,6 +11,7 @@ use crate::wrong::Wrong;
 use journal_lines::{EntryLine, JournalLine, JournalReader};
 use recon_report::report;
 use std::alloc::Global;
+use std::hash::RandomState;
 use std::marker::Model;
 use switch_core::{Core, CoreFault};
 use upi_base::{AuditWhy, Call, Done, EngineFault, NoMemory, Reply, Sent, Verdict};
@@ -136,11 +137,16 @@ fn wrong_after(due: &mut Closing, wrong: Option<Wrong>, line: &[u8]) -> Option<W
 }
 
 impl Judge {
-    /// A judge of a journal over the setup of a directory, after OPEN.
-    pub(crate) fn new(alloc: Global, directory: Directory) -> Result<Judge, NoMemory>
+    /// A judge of a journal over the setup of a directory, after OPEN. Names that senders choose are
+    /// hashed with `hashes`.
+    pub(crate) fn new(
+        alloc: Global,
+        hashes: RandomState,
+        directory: Directory,
+    ) -> Result<Judge, NoMemory>
         ensures { IfOk result (λ j. j ≡ Steps.just_opened directory.lines) }
     {
-        let core = Core::over(alloc, directory)?;
+        let core = Core::over(alloc, hashes, directory)?;
         Ok(Judge {
             alloc,
             core,

@@ -28,7 +28,8 @@ fn asked(alloc: Global, words: &str, input: &[u8], cut: Cut) -> Result<Ending, F
     let piece = cut.piece.max(1);
     let mut source = MemSource::new(Vec::from_slice(alloc, input)?, piece, bad_reads);
     let mut sink = MemSink::new(alloc, 100_000, piece, bad_writes)?;
-    let status = run(alloc, &Words::of(list), &mut source, &mut sink);
+    let hashes = RandomState::new(&SameKeys)?;
+    let status = run(alloc, hashes, &Words::of(list), &mut source, &mut sink);
     Ok(Ending {
         status,
         text: Vec::from_slice(alloc, sink.taken())?,

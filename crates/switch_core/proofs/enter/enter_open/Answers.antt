@@ -1,12 +1,10 @@
-use Rattle.std.proofs.Common.{◌≡◌, ◌∷◌, Option, refl, sym, ap, subst, ◌∙◌}
+use Rattle.std.proofs.Common.{◌≡◌, ◌∷◌, Option, sym, ap, subst, ◌∙◌}
 use Rattle.std.specs.Option.{option_copied}
-use Rattle.upi_words.specs.Prelude.{Entry, Sent, History, Legal, is_closed}
+use Rattle.upi_words.specs.Prelude.{Entry, Sent}
 use Rattle.upi_model.specs.Legal.{entry_of}
-use Rattle.upi_model.specs.Owners.{message_of}
 use Rattle.core_shards.proofs.Gathered.{core_laws}
 use Rattle.core_shards.specs.declared.step.{Step.Step}
-use Rattle.core_shards.specs.Steps.{CanPlan, IsDefined, IsStep, IsStepOf, without_sent}
-use Rattle.core_shards.specs.Tables.{StandsAll, Tables}
+use Rattle.core_shards.specs.Steps.{CanPlan, IsDefined, IsStep}
 use Rattle.switch_core.proofs.Entered.{entered, entry, planned_entry}
 use Rattle.switch_core.proofs.enter.enter_open.Goals as goal
 

@@ -1,4 +1,4 @@
-use Rattle.std.proofs.Common.{◌≡◌, ◌∷◌, refl, ap, ◌∙◌}
+use Rattle.std.proofs.Common.{◌≡◌, ◌∷◌, ap, ◌∙◌}
 use Rattle.upi_words.specs.Prelude.{Entry, Reply}
 use Rattle.upi_model.specs.Legal.{entry_of}
 use Rattle.switch_core.proofs.Entered.{close_reply, close_silent, closed_on, entry, silent_entry}
