@@ -115,3 +115,16 @@ pub some_given : {b : Bool} (rest : List ℕ) (most room n : ℕ) → b ≡ fals
 some_given rest most room n empty is some fits e =
     let long : 0 < length rest = omega (arith, eqb-false _ _ (sym is ∙ empty)) in
     (omega (arith, e, long), omega (arith, e))
+
+-- ---- a whole line is held, so nothing is read
+
+-- what was held and left at first is so still
+pub same_kept : {S : Type 0} (first held held' : List ℕ) (one two three : S) → line_len first < length first → (held ≡ first) × (two ≡ one) → (0 < length held → (held' ≡ held) × (three ≡ two)) → (held' ≡ first) × (three ≡ one)
+same_kept first held held' one two three whole same next =
+    let some : 0 < length held = omega (arith, ap length same.0, whole) in
+    let n = next some in
+    (n.0 ∙ same.0, n.1 ∙ same.1)
+
+-- and a part that has no LF isn't what is held
+pub no_whole : (first held : List ℕ) → line_len first < length first → held ≡ first → line_len held ≡ length held → ⊥
+no_whole first held whole same none = omega (arith, ap length same, ap line_len same, none, whole)

@@ -4,7 +4,7 @@ ghost use Rattle.std.specs.List.{prefix_len};
 ghost use Rattle.std.specs.Io.KnownBytes.{prepend_known, IsAtEnd};
 ghost use Rattle.upi_io.specs.Faults.{Rose};
 ghost use Rattle.upi_io.specs.Streams.{ReadCause, ReadSurely, ended_after};
-ghost use Rattle.upi_io.specs.Lines.{line_len, LineCause, LineSurely, IsLine, IsCutOff, IsNumbered, AnswersAhead, without_cr, ahead, count_after, fault_after};
+ghost use Rattle.upi_io.specs.Lines.{line_len, LineCause, LineSurely, IsLine, IsCutOff, IsNumbered, AnswersAhead, without_cr, ahead, holds_line, count_after, fault_after};
 ghost use Rattle.upi_io.specs.Steps.{Fills, TakesPart, IsReady, Advances};
 
 use crate::source::{ReadAnswer, Source};
@@ -43,7 +43,7 @@ pub const MAX_LINE: usize = 65_536;
 pub const MAX_LINES: u64 = 16_777_216;
 
 // The most bytes that one read asks for.
-const ROOM: usize = 4096;
+const ROOM: usize = 65_536;
 
 // Bytes that were read and not yet given.
 #[derive(Drop)]
@@ -146,6 +146,7 @@ fn take_part(held: &mut Held, line: &mut Vec<u8>, at: u64) -> Result<bool, LineF
 fn ready<S: Source>(held: &mut Held, source: &mut S) -> Result<bool, LineFault>
     ensures bytes { IsReady held.old held.new (S.left source.old) (S.left source.new) result }
     ensures ended { result ≡ Ok false → S.ended source.new ≡ true }
+    ensures unread { 0 < length held.old → (held.new ≡ held.old) × (source.new ≡ source.old) }
     ensures cause { LineCause (S.faults source.old) (S.faults source.new) result }
     ensures sure { LineSurely (S.sure source.old) (S.sure source.new) result }
 {
@@ -168,6 +169,7 @@ fn advance<S: Source>(
 ) -> Result<bool, LineFault>
     requires { line.old.items ≡ [] }
     ensures bytes { Advances (prepend_known held.old (S.left source.old)) held.new (S.left source.new) line.new.items at result }
+    ensures unread { line_len held.old < length held.old → source.new ≡ source.old }
     ensures cause { LineCause (S.faults source.old) (S.faults source.new) result }
     ensures sure { LineSurely (S.sure source.old) (S.sure source.new) result }
 {
@@ -209,6 +211,7 @@ fn next_line<S: Source>(
     ensures ended { result ≡ Ok Line.End → S.ended source.new ≡ true }
     ensures over { result ≡ Ok Line.End → IsAtEnd (S.left source.new) }
     ensures none_held { result ≡ Ok Line.End → held.new ≡ [] }
+    ensures unread { line_len held.old < length held.old → source.new ≡ source.old }
 {
     match ready(held, source) {
         Ok(true) => {}
@@ -228,7 +231,7 @@ fn next_line<S: Source>(
     }
 }
 
-/// Reads the lines of one source, in pieces of up to 4,096 bytes.
+/// Reads the lines of one source, in pieces of up to 65,536 bytes.
 ///
 /// A line ends at LF. The LF is dropped, and so is one CR right before it. Bytes behind the last LF
 /// are a line too, and keep their CR.
@@ -263,6 +266,14 @@ impl LineReader {
         }
     }
 
+    /// Whether a whole line was read that wasn't given yet. Then the next line wants nothing of the source.
+    pub fn holds_line(&self) -> bool
+        ensures { result ≡ holds_line self.now }
+    {
+        let held = self.held.bytes();
+        line_len(held) < held.len()
+    }
+
     /// Reads the next line into `line`, whose former bytes go.
     ///
     /// `TooLong` comes only where the line has more than 65,536 bytes before its LF, a CR counted, and
@@ -292,6 +303,8 @@ impl LineReader {
         ensures ended { result ≡ Ok Line.End → S.ended source.new ≡ true }
         ensures over { result ≡ Ok Line.End → IsAtEnd (S.left source.new) }
         ensures none_held { result ≡ Ok Line.End → self.new.held ≡ [] }
+        // Where a whole line is held, the source isn't asked.
+        ensures unread { holds_line self.old ≡ true → source.new ≡ source.old }
         // A read fault comes only where the source failed.
         ensures cause { self.old.fault ≡ None → LineCause (S.faults source.old) (S.faults source.new) result }
         ensures sure { self.old.fault ≡ None → LineSurely (S.sure source.old) (S.sure source.new) result }

@@ -45,6 +45,23 @@ fn only_one_cr_before_an_lf_is_dropped(rt: HostRuntime) -> Result<(), Fail> {
     Ok(())
 }
 
+// Behind each line, whether a further whole one was read: all bytes come at once, and no LF ends the last line.
+#[test]
+fn whole_lines_that_are_held(rt: HostRuntime) -> Result<(), Fail> {
+    let alloc = rt.alloc();
+    let mut source = source(alloc, b"a\n\nb\nc", 100, &[])?;
+    let mut reader = LineReader::new();
+    let mut line = Vec::new(alloc);
+    assert!(rt; !reader.holds_line());
+    for holds in [true, true, false, false] {
+        assert_eq!(rt; reader.next(&mut source, &mut line), Ok(Line::Got));
+        assert_eq!(rt; reader.holds_line(), holds);
+    }
+    assert_eq!(rt; reader.next(&mut source, &mut line), Ok(Line::End));
+    assert!(rt; !reader.holds_line());
+    Ok(())
+}
+
 // What the reader answers for the second line, where that is `#` and so many bytes.
 fn second_line(alloc: Global, bytes: usize) -> Result<[Result<Line, LineFault>; 2], Fail> {
     let mut text = Vec::from_slice(alloc, b"one\n#")?;
