@@ -1,6 +1,7 @@
 pub mod Completes
 pub mod Cuts
 pub mod Ends
+pub mod Fronts
 pub mod Journals
 pub mod Plays
 pub mod Readings

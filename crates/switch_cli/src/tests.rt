@@ -1,6 +1,7 @@
 ghost use Rattle.std.specs.Prelude.{◌<◌};
 
 mod commands;
+mod output;
 mod reasons;
 mod rows;
 

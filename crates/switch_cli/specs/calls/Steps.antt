@@ -1,6 +1,6 @@
 -- What the steps of a run do.
-use Rattle.std.specs.Prelude.{◌≡◌, ℕ, ◌+◌, ◌<◌, ◌≤◌, true, false, List, length, take, if◌then◌else◌, Option, Some, None, Result, Ok, Err}
-use Rattle.std.specs.Io.KnownBytes.{Appends, IsAtEnd}
+use Rattle.std.specs.Prelude.{◌≡◌, ℕ, ◌++◌, if◌then◌else◌, Option, Some, Result, Ok, Err}
+use Rattle.std.specs.Io.KnownBytes.{IsAtEnd}
 use Rattle.upi_words.specs.Prelude.{Why, Text}
 use Rattle.upi_base.specs.declared.fault.EngineFault.{EngineFault}
 use Rattle.upi_io.specs.Lines.{AnswersAhead, IsCutOff, IsNumbered}
@@ -9,12 +9,11 @@ use Rattle.upi_io.specs.declared.lines.LineFault.{LineFault}
 use Rattle.upi_io.specs.declared.status.Status.{Status}
 use Rattle.upi_text.specs.Refusals.{refusal}
 use Rattle.upi_text.specs.declared.refusal.Refusal.{Refusal}
-use Rattle.script_engine.specs.Play.{Play, Played, play_line, play}
+use Rattle.script_engine.specs.Play.{Play, Played, play_line}
 use Rattle.script_engine.specs.End.{finished}
-use Rattle.switch_cli.specs.Lines.{AreRead}
 use Rattle.switch_cli.specs.declared.script.Stop.{Stop}
 
--- ---- one step: the next line is read and played, and its text written; at the end the end is played
+-- ---- one step: the next line is read and played; at the end the end is played
 
 -- what a reader answers after so many lines, with what is ahead before it and after it, and what the source has left
 pub record Finds (n : ℕ) (ahead after left : Option Text) (line : Text) (r : Result Line LineFault) : Type 0 where
@@ -32,34 +31,25 @@ abbrev pub played_next : Play → Text → Line → Result Played Refusal
 played_next p text Line.Got = play_line p text
 played_next p text Line.End = end_of p
 
--- an engine plays, by the definition r: its text, and how it stands then
-abbrev pub PlaysAs : Result Played Refusal → Text → Play → Result (Unit {0}) EngineFault → Type 0
-PlaysAs r text new (Ok u) = (q : Played) × (r ≡ Ok q) × (text ≡ q.text) × (new ≡ q.play)
-PlaysAs r text new (Err (EngineFault.Bad field why)) = r ≡ Err (refusal field why)
-PlaysAs r text new (Err EngineFault.NoMemory) = Unit {0}
+-- an engine plays, by the definition r: its text, behind the one that is kept back, and how it stands then
+abbrev pub PlaysAs : Result Played Refusal → Text → Text → Play → Result (Unit {0}) EngineFault → Type 0
+PlaysAs r before after new (Ok u) = (q : Played) × (r ≡ Ok q) × (after ≡ before ++ q.text) × (new ≡ q.play)
+PlaysAs r before after new (Err (EngineFault.Bad field why)) = (r ≡ Err (refusal field why)) × (after ≡ before)
+PlaysAs r before after new (Err EngineFault.NoMemory) = after ≡ before
 
--- what was played, with its text written
-pub record Writes (p : Play) (line : Text) (found : Line) (before after : Option Text) (new : Play) : Type 0 where
+-- what was played; its text is kept back, behind the one that was
+pub record Plays (p : Play) (line : Text) (found : Line) (before after : Text) (new : Play) : Type 0 where
   pub played : Played
   pub plays : played_next p line found ≡ Ok played
-  pub wrote : Appends before after played.text
+  pub kept : after ≡ before ++ played.text
   pub becomes : new ≡ played.play
 
--- what was played, with a front of its text written
-pub record WritesFront (p : Play) (line : Text) (found : Line) (before after : Option Text) : Type 0 where
-  pub played : Played
-  pub plays : played_next p line found ≡ Ok played
-  pub count : ℕ
-  pub short : count < length played.text
-  pub wrote : Appends before after (take count played.text)
-
 -- a step at the line after so many is done, or stops the run
-abbrev pub Steps : ℕ → Option Text → Option Text → Option Text → Text → Play → Option Text → Option Text → Play → Result Line Stop → Type 0
-Steps n ahead rest left line p before after new (Ok found) = Finds n ahead rest left line (Ok found) × Writes p line found before after new
+abbrev pub Steps : ℕ → Option Text → Option Text → Option Text → Text → Play → Text → Text → Play → Result Line Stop → Type 0
+Steps n ahead rest left line p before after new (Ok found) = Finds n ahead rest left line (Ok found) × Plays p line found before after new
 Steps n ahead rest left line p before after new (Err (Stop.Read fault)) = Finds n ahead rest left line (Err fault) × (after ≡ before)
 Steps n ahead rest left line p before after new (Err (Stop.Play (EngineFault.Bad field why))) = (found : Line) × Finds n ahead rest left line (Ok found) × (played_next p line found ≡ Err (refusal field why)) × (after ≡ before)
 Steps n ahead rest left line p before after new (Err (Stop.Play EngineFault.NoMemory)) = after ≡ before
-Steps n ahead rest left line p before after new (Err Stop.Write) = (found : Line) × Finds n ahead rest left line (Ok found) × WritesFront p line found before after
 
 -- ---- how a run ends, where a step stops it
 
@@ -79,19 +69,7 @@ play_status line EngineFault.NoMemory = Status.NoMemory
 abbrev pub status_of : ℕ → Stop → Status
 status_of line (Stop.Read fault) = read_status line fault
 status_of line (Stop.Play fault) = play_status line fault
-status_of line Stop.Write = Status.WriteFault
-
--- ---- from step to step
 
 -- these bytes are those that are ahead of the reader
 abbrev pub IsAhead : Option Text → Text → Type 0
 IsAhead ahead rest = ahead ≡ Some rest
-
--- So many lines were read and played to p, and their text was written.
-pub record Going (source ahead : Option Text) (p : Play) (n : ℕ) (before after : Option Text) : Type 0 where
-  pub texts : List Text
-  pub written : Text
-  pub count : length texts ≡ n
-  pub plays : play texts ≡ Ok (record { play = p; text = written })
-  pub wrote : Appends before after written
-  pub read : AreRead source texts (IsAhead ahead)
