@@ -1,5 +1,5 @@
 // When the text of a script goes out: in pieces, and before the source is asked for more.
-ghost use Rattle.std.specs.Prelude.{◌<◌, None, length};
+ghost use Rattle.std.specs.Prelude.{◌<◌, ◌≤◌, None, length};
 
 use super::*;
 use std::cell::Cell;
