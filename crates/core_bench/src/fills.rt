@@ -128,7 +128,10 @@ fn address(alloc: Global, number: u64, psp: &str) -> Option<Addr> {
 /// A payer asks for a payment of 0.01.
 pub fn payment(alloc: Global, number: u64, txn: TxnId) -> Option<Call> {
     let asked = PayReq {
-        head: head()?,
+        head: Head {
+            ver: Ver::One,
+            ..head()?
+        },
         kind: Kind::Pay,
         txn,
         note: None,

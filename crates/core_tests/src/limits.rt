@@ -3,7 +3,7 @@ use crate::both::{apply, switch};
 use std::alloc::Global;
 use std::test::Fail;
 use switch_core::{Core, CoreFault};
-use upi_base::{Call, Code, Done, Moment, Reply, TxnId, txn_shard};
+use upi_base::{Call, Code, Moment, Reply, TxnId, txn_shard};
 use worked_rows::journal::{call_of, setup_of};
 use worked_rows::rows;
 
@@ -18,45 +18,60 @@ fn unknown() -> Result<TxnId, Fail> {
     Ok(TxnId::read(b"X1").ok_or("no name")?)
 }
 
+// Whether a call is refused, since there are so many entries.
+fn is_full(core: &mut Core, call: Call, now: Moment, len: u64) -> bool {
+    match apply(core, call, now) {
+        Some(Err(fault)) => fault == CoreFault::Full { len },
+        _ => false,
+    }
+}
+
+// Whether a call is answered so.
+fn is_answered(core: &mut Core, call: Call, now: Moment, reply: Reply) -> bool {
+    match apply(core, call, now) {
+        Some(Ok(done)) => done.reply == reply,
+        _ => false,
+    }
+}
+
 // Whether so many Lates of a transaction that isn't known are each answered so.
 fn are_not_due(core: &mut Core, count: u64) -> Result<bool, Fail> {
+    let (now, txn) = (start()?, unknown()?);
     for _place in 0..count {
-        let answer = apply(core, Call::Late(unknown()?), start()?);
-        match answer {
-            Some(Ok(done)) => {
-                if done.reply != Reply::NotDue {
-                    return Ok(false);
-                }
-            }
-            _ => return Ok(false),
+        if !is_answered(core, Call::Late(txn.copy()), now, Reply::NotDue) {
+            return Ok(false);
         }
     }
     Ok(core.len() == count)
 }
 
-// What comes behind a full history: a Late, the Close, and a second Close.
-fn behind(core: &mut Core) -> Result<[Option<Result<Done, CoreFault>>; 3], Fail> {
-    let late = apply(core, Call::Late(unknown()?), start()?);
-    let close = apply(core, Call::Close, start()?);
-    let again = apply(core, Call::Close, start()?);
-    Ok([late, close, again])
+// Whether what comes behind a full history is right: a Late, the Close, and a second Close.
+fn is_right_behind(core: &mut Core) -> Result<bool, Fail> {
+    let now = start()?;
+    let late = is_full(core, Call::Late(unknown()?), now, 2_097_152);
+    let close = is_answered(core, Call::Close, now, Reply::Closed);
+    let again = is_full(core, Call::Close, now, 2_097_153);
+    Ok(late && close && again)
+}
+
+// Whether a history is filled by Lates, and takes the first Close alone then.
+fn fills(core: &mut Core) -> Result<bool, Fail> {
+    if !are_not_due(core, 2_097_152)? {
+        return Ok(false);
+    }
+    is_right_behind(core)
+}
+
+// Fills a new switch's history.
+fn full_history(rt: &HostRuntime) -> Result<bool, Fail> {
+    let mut core = switch(rt, setup_of(rt.alloc(), rows::SETUP)?)?;
+    fills(&mut core)
 }
 
 #[test]
 fn a_full_history_takes_the_first_close_alone(rt: HostRuntime) -> Result<(), Fail> {
-    let mut core = switch(&rt, setup_of(rt.alloc(), rows::SETUP)?)?;
-    let fit = are_not_due(&mut core, 2_097_152)?;
-    let answers = behind(&mut core)?;
-    let expected = [
-        Some(Err(CoreFault::Full { len: 2_097_152 })),
-        Some(Ok(Done {
-            reply: Reply::Closed,
-            place: 2_097_153,
-        })),
-        Some(Err(CoreFault::Full { len: 2_097_153 })),
-    ];
-    assert!(rt; fit);
-    assert!(rt; answers == expected);
+    let right = full_history(&rt)?;
+    assert!(rt; right);
     Ok(())
 }
 
@@ -70,8 +85,10 @@ fn name(alloc: Global, number: u64) -> Result<TxnId, Fail> {
 fn asked(alloc: Global, core: &mut Core, number: u64) -> Result<Reply, Fail> {
     let line = format!(in alloc; "E - - 0 HEAR alpha PAY L{number} 0.01 ann@alpha bob@beta - - -")?;
     let call = call_of(alloc, line.as_bytes())?;
-    let done = apply(core, call, start()?).ok_or("a PSP")?;
-    Ok(done?.reply)
+    match apply(core, call, start()?) {
+        Some(Ok(done)) => Ok(done.reply),
+        _ => Err(Fail::new("not taken")),
+    }
 }
 
 // Whether a shard's next payment is answered as it must be, where so many of it were opened.
@@ -94,7 +111,7 @@ fn ask(alloc: Global, core: &mut Core, opened: &mut [u64; 16], number: u64) -> R
     }
 }
 
-// Asks for payments, so many that more than 4,096 are of each shard.
+// Asks for payments, so many that more than 4,096 are of each shard. Whether all are answered so.
 fn ask_all(alloc: Global, core: &mut Core) -> Result<bool, Fail> {
     let mut opened = [0u64; 16];
     for number in 0..MANY {
@@ -102,15 +119,18 @@ fn ask_all(alloc: Global, core: &mut Core) -> Result<bool, Fail> {
             return Ok(false);
         }
     }
-    Ok(true)
+    Ok(core.rows()?.len() == 65_536)
+}
+
+// Fills the shards of a new switch.
+fn full_shards(rt: &HostRuntime) -> Result<bool, Fail> {
+    let mut core = switch(rt, setup_of(rt.alloc(), rows::SETUP)?)?;
+    ask_all(rt.alloc(), &mut core)
 }
 
 #[test]
 fn each_shard_opens_4096(rt: HostRuntime) -> Result<(), Fail> {
-    let mut core = switch(&rt, setup_of(rt.alloc(), rows::SETUP)?)?;
-    let right = ask_all(rt.alloc(), &mut core)?;
-    let opened = core.rows()?.len();
+    let right = full_shards(&rt)?;
     assert!(rt; right);
-    assert_eq!(rt; opened, 65_536);
     Ok(())
 }
