@@ -2,11 +2,7 @@
 #![tactic(auto)]
 
 #[cfg(test)]
-mod edges;
-#[cfg(test)]
 mod play;
-#[cfg(test)]
-mod rows;
 #[cfg(test)]
 mod tests;
 #[cfg(test)]

@@ -1,5 +1,4 @@
-use crate::play::{call_of, moment, play, setup_of, wanted, written};
-use crate::{edges, rows};
+use crate::play::play;
 use std::alloc::Global;
 use std::test::Fail;
 use upi_base::{
@@ -8,6 +7,8 @@ use upi_base::{
 };
 use upi_replay::{Replay, replay, reply_of};
 use upi_text::word;
+use worked_rows::journal::{call_of, moment, setup_of, wanted, written};
+use worked_rows::{edges, rows};
 
 fn field(line: &[u8], place: usize) -> &[u8] {
     line.split(|c| *c == b',').nth(place).unwrap_or(b"")

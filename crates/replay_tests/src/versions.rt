@@ -1,6 +1,4 @@
 //! Orders that come before their payment was opened, and payments of version 2.0.
-use crate::play::{call_of, setup_of, written};
-use crate::rows;
 use std::alloc::Global;
 use std::test::Fail;
 use upi_base::{
@@ -8,6 +6,8 @@ use upi_base::{
     MsgId, OrgId, Paise, Party, PayReq, PspName, Reply, Sent, SentList, TwoDigits, TxnId, Ver,
 };
 use upi_replay::Replay;
+use worked_rows::journal::{call_of, setup_of, written};
+use worked_rows::rows;
 
 const START: u64 = 1_704_067_200;
 
