@@ -1,5 +1,5 @@
 //! A spot in a text at which a value begins.
-ghost use Rattle.std.specs.Prelude.{◌≤◌, ◌+◌};
+ghost use Rattle.std.specs.Prelude.{◌≤◌, ◌<◌, ◌+◌, ◌^◌};
 ghost use Rattle.json_tree.specs.Placed.{HasFirst, HasInner, first_size, inner_size};
 
 use json::{Element, Items};
@@ -12,6 +12,7 @@ pub struct Spot<'t, 'a> {
     pub(crate) most: usize,
     ghost within: { HasFirst at },
     ghost small: { first_size at ≤ most },
+    ghost fits: { most < 2 ^ 64 },
 }
 
 /// Where items of a list begin, up to its end.
@@ -24,4 +25,5 @@ pub struct Spots<'t, 'a> {
     pub(crate) most: usize,
     ghost inside: { HasInner rest },
     ghost small: { passed + inner_size rest ≤ most },
+    ghost fits: { most < 2 ^ 64 },
 }

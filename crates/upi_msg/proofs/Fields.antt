@@ -119,7 +119,7 @@ ifsc_back b t =
     rw (whole, letters, front_back b (codes "0000000") 4 four, t) refl
 
 account_some : (r : Root) (w : Who) (d : Data) (a : AccountRef) → get (codes "Ac") d ≡ Some (account_tree a) → IsTypedAccount a → account_in r w d ≡ Ok (Some a)
-unfolding account_in ac_of object_of account_of list_in member_at list_of named_item text_at text_of account_of_items only_named account_tree
+unfolding account_in ac_of object_of account_of list_in member_at list_of named_item text_at text_of account_of_items account_of_parts only_named account_tree
 account_some r w d a e t = rw (e, ifsc_back a.bank t.bank, t.num) refl
 
 account_back : (r : Root) (w : Who) (d : Data) (ac : Option AccountRef) → get (codes "Ac") d ≡ option_map account_tree ac → IsTypedAc ac → account_in r w d ≡ Ok ac

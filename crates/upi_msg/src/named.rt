@@ -1,5 +1,5 @@
 //! Lists of named values.
-ghost use Rattle.std.specs.Prelude.{◌≡◌, ◌+◌, Ok, Err, IfOk, MatchResult, option_map};
+ghost use Rattle.std.specs.Prelude.{◌≡◌, ◌+◌, Err, IfOk, MatchResult, option_map};
 ghost use Rattle.std.specs.Str.{bytes_eq};
 ghost use Rattle.json_tree.specs.Spots.{spot_data, spots_data, spots_passed};
 ghost use Rattle.upi_msg.specs.Types.{Text, Data, Items, item};
@@ -101,8 +101,8 @@ pub(crate) fn lots_of<'a>(
     Ok((first, second))
 }
 
-/// The one item of a name.
-pub(crate) fn only_named<'a>(lot: Lot<'a>) -> Option<(usize, &'a str)>
+// The one item of a name.
+fn only_named<'a>(lot: Lot<'a>) -> Option<(usize, &'a str)>
     ensures { (k : Text) → (ds : Items) → IsLot lot.entry k ds
         → option_map (λ p. (p.0, p.1.now)) result ≡ Named.only_named k ds }
 {
@@ -111,4 +111,25 @@ pub(crate) fn only_named<'a>(lot: Lot<'a>) -> Option<(usize, &'a str)>
         Lot::One(index, value) => Some((index, value)),
         Lot::Several => None,
     }
+}
+
+/// The one item of each of two names, where each item of a list is a named value: its number, and
+/// its value.
+pub(crate) fn two_named<'a>(
+    part: Part,
+    list: Name,
+    items: Spots<'_, 'a>,
+    names: (&str, &str),
+) -> Result<(Option<(usize, &'a str)>, Option<(usize, &'a str)>), Fault>
+    requires { spots_passed items ≡ 0 }
+    ensures fault { MatchResult result
+        (λ _. Named.IsNamedList (Named.named_items part list 0 (spots_data items.entry)))
+        (λ e. Named.named_items part list 0 (spots_data items.entry) ≡ Err e) }
+    ensures first { IfOk result (λ p. option_map (λ q. (q.0, q.1.now)) p.0
+        ≡ Named.only_named names.0.now (spots_data items.entry)) }
+    ensures second { IfOk result (λ p. option_map (λ q. (q.0, q.1.now)) p.1
+        ≡ Named.only_named names.1.now (spots_data items.entry)) }
+{
+    let (first, second) = lots_of(part, list, items, names)?;
+    Ok((only_named(first), only_named(second)))
 }

@@ -1,13 +1,11 @@
 //! Reading the members of a party: `Amount` and `Ac`.
-ghost use Rattle.std.specs.Prelude.{◌≡◌, codes};
+ghost use Rattle.std.specs.Prelude.{◌≡◌, option_map};
 ghost use Rattle.json_tree.specs.Spots.{spot_data, spots_data};
 ghost use Rattle.upi_msg.specs.Parties;
 ghost use Rattle.upi_msg.specs.Members.{Gives};
-ghost use Rattle.upi_msg.specs.Types.{Items};
-ghost use Rattle.upi_msg.specs.Lots.{IsLot};
 
 use crate::member::{list_in, object_in, object_of, of_count, of_value, text_at, text_in};
-use crate::named::{Lot, lots_of, only_named};
+use crate::named::two_named;
 use crate::place::{Fault, Name, Part, Place, Root, Who};
 use json_tree::{Spot, Spots, member, next_item};
 use upi_base::{AcNum, AccountRef, BankCode, MsgWhy, Paise};
@@ -63,14 +61,19 @@ fn bank_of_ifsc(text: &[u8]) -> Option<BankCode>
     }
 }
 
-// The account of what a `Detail` has of two names.
-fn account_of_lots(part: Part, ifsc: Lot<'_>, number: Lot<'_>) -> Result<AccountRef, Fault>
-    ensures { (ds : Items) → IsLot ifsc.entry (codes "IFSC") ds
-        → IsLot number.entry (codes "ACNUM") ds → result ≡ Parties.account_of_items part ds }
+// The account of the one item of each name that a `Detail` has.
+#[tactic(auto, unfolding(crate::specs::Parties::account_of_parts))]
+fn account_of_parts(
+    part: Part,
+    ifsc: Option<(usize, &str)>,
+    number: Option<(usize, &str)>,
+) -> Result<AccountRef, Fault>
+    ensures { result ≡ Parties.account_of_parts part (option_map (λ p. (p.0, p.1.now)) ifsc.entry)
+        (option_map (λ p. (p.0, p.1.now)) number.entry) }
 {
     let count = Place::Member(part, Name::Detail);
-    let (first, ifsc) = of_count(count, only_named(ifsc))?;
-    let (second, number) = of_count(count, only_named(number))?;
+    let (first, ifsc) = of_count(count, ifsc)?;
+    let (second, number) = of_count(count, number)?;
     let place = Place::InItem(part, Name::Detail, first, Name::Value);
     let bank = of_value(place, bank_of_ifsc(ifsc.as_bytes()))?;
     let place = Place::InItem(part, Name::Detail, second, Name::Value);
@@ -79,13 +82,13 @@ fn account_of_lots(part: Part, ifsc: Lot<'_>, number: Lot<'_>) -> Result<Account
 }
 
 // The account of an `Ac` that names one.
-#[tactic(auto, unfolding(crate::specs::Parties::account_of))]
+#[tactic(auto, unfolding(crate::specs::Parties::account_of, crate::specs::Parties::account_of_items))]
 fn account_of(part: Part, value: &Spot<'_, '_>) -> Result<AccountRef, Fault>
     ensures { result ≡ Parties.account_of part (spot_data value.now) }
 {
     let items = list_in(part, Name::Detail, value)?;
-    let (ifsc, number) = lots_of(part, Name::Detail, items, ("IFSC", "ACNUM"))?;
-    account_of_lots(part, ifsc, number)
+    let (ifsc, number) = two_named(part, Name::Detail, items, ("IFSC", "ACNUM"))?;
+    account_of_parts(part, ifsc, number)
 }
 
 // Whether an `Ac` names an account.

@@ -6,6 +6,7 @@ pub invariant_of-result : goal.invariant_of-result
 invariant_of-result c = record {
   inside = list_inner c.args.spot.now.at c.args.spot.now.within c.in-Some.rest c.in-Some.ensures;
   small = list_small c.args.spot.now.at c.args.spot.now.within c.in-Some.rest c.args.spot.now.most c.args.spot.now.small c.in-Some.ensures;
+  fits = c.args.spot.now.fits;
 }
 
 pub returns-in-Some-clause-value : goal.returns-in-Some-clause-value

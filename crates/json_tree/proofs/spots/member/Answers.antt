@@ -6,6 +6,7 @@ pub invariant_of-result : goal.invariant_of-result
 invariant_of-result c = record {
   within = found_first c.args.name.now c.args.spot.now.at c.args.spot.now.within c.in-Some.at c.in-Some.ensures;
   small = found_small c.args.name.now c.args.spot.now.at c.args.spot.now.within c.in-Some.at c.args.spot.now.most c.args.spot.now.small c.in-Some.ensures;
+  fits = c.args.spot.now.fits;
 }
 
 pub returns-in-Some : goal.returns-in-Some

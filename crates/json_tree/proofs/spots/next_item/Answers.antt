@@ -5,7 +5,7 @@ use Rattle.json_tree.proofs.spots.next_item.Goals as goal
 pub overflow_add-spots : goal.overflow_add-spots
 overflow_add-spots c =
     let e = next_size c.args.spots.now.rest c.next.new.self c.in-Some.at c.args.spots.now.inside c.in-Some.ensures.value in
-    omega (arith, c.args.spots.now.small, e.0, e.1)
+    omega (arith, c.args.spots.now.small, c.args.spots.now.fits, e.0, e.1)
 
 pub invariant_of-spots-clause-inside : goal.invariant_of-spots-clause-inside
 invariant_of-spots-clause-inside c = next_inner c.args.spots.now.rest c.next.new.self c.next.result c.args.spots.now.inside c.next.ensures.value c.next.ensures.stays
@@ -33,3 +33,9 @@ pub invariant_of-result-clause-small : goal.invariant_of-result-clause-small
 invariant_of-result-clause-small c =
     let e = next_size c.args.spots.now.rest c.next.new.self c.in-Some.at c.args.spots.now.inside c.in-Some.ensures.value in
     omega (arith, c.args.spots.now.small, e.0, e.1)
+
+pub invariant_of-spots-clause-fits : goal.invariant_of-spots-clause-fits
+invariant_of-spots-clause-fits c = c.args.spots.now.fits
+
+pub invariant_of-result-clause-fits : goal.invariant_of-result-clause-fits
+invariant_of-result-clause-fits c = c.args.spots.now.fits

@@ -30,4 +30,4 @@ members-preserved c =
     going_same c.members.members c.next-in-members.new.self c.in-Some.other.1 k l g c.members.invariant c.in-Some.ensures.value (are_same l k c.is_same.result c.is_same.ensures c.if-not-is_same.false)
 
 pub returns : goal.returns
-returns c = going_end c.members.members c.next-in-members.new.self c.in_ok-first.first.0.now (name_of (only_of (as_object (spot_data c.args.spot.now)))) c.members.invariant c.in-None.ensures.value
+returns c = going_end c.members.members c.next-in-members.new.self c.in_ok-first.first.0.now (name_of (only_of (as_object (spot_data c.args.spot.now)))) c.members.invariant c.in_default.ensures.value

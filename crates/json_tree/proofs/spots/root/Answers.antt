@@ -6,4 +6,5 @@ pub invariant_of-result : goal.invariant_of-result
 invariant_of-result c = record {
   within = has_first c.root.result c.root.ensures.value;
   small = omega (arith, root_small c.root.result c.root.ensures.value, ap length c.root.ensures.same, c.len.ensures);
+  fits = omega arith;
 }
