@@ -25,18 +25,25 @@ object_same p (string s) e h = absurd cc
 object_same p (array ds) e h = absurd cc
 object_same p (object ms) e h = cc
 
+text_of_kind : (p : Place) (o : Option Text) (s : Text) → of_kind p o ≡ Ok s → o ≡ Some s
+text_of_kind p None s h = absurd cc
+text_of_kind p (Some t) s h = cc
+
+text_in_member : (p : Place) (o : Option Data) (s : Text) → (there p o >>= λ e. of_kind p (as_str e)) ≡ Ok s → option_and_then as_str o ≡ Some s
+text_in_member p None s h = absurd cc
+text_in_member p (Some e) s h = text_of_kind p (as_str e) s h
+
 -- a text that is there
 pub text_there : (p : Place) (n : Name) (d : Data) (s : Text) → text_at p n d ≡ Ok s → option_and_then as_str (get (name_text n) d) ≡ Some s
 unfolding text_at member_at text_of
-text_there p n d s h = go (get (name_text n) d) refl
-  where
-    text : (e : Data) → get (name_text n) d ≡ Some e → (o : Option Text) → as_str e ≡ o → o ≡ Some s
-    text e f (Some t) g = let at : Ok t ≡ Ok s = rw f at (rw g at h) in cc
-    text e f None g = absurd cc
+text_there p n d s h = text_in_member p (get (name_text n) d) s h
 
-    go : (o : Option Data) → get (name_text n) d ≡ o → option_and_then as_str o ≡ Some s
-    go None e = absurd cc
-    go (Some e) f = text e f (as_str e) refl
+-- the name and the value of an item
+pub name_is : (k : Text) (d e : Data) (s : Text) (p q : Place) → object_of p d ≡ Ok e → text_at q Name.Name e ≡ Ok s → bytes_eq s k ≡ is_named k d
+name_is k d e s p q whole told = sym (ap (is_named k) (object_same p d e whole) ∙ ap (λ o. option_map_or (λ t. bytes_eq t k) o false) (text_there q Name.Name e s told))
+
+pub value_is : (d e : Data) (s : Text) (p q : Place) → object_of p d ≡ Ok e → text_at q Name.Value e ≡ Ok s → s ≡ value_of d
+value_is d e s p q whole told = sym (ap value_of (object_same p d e whole) ∙ ap (λ o. unwrap_or o []) (text_there q Name.Value e s told))
 
 -- ---- item by item
 

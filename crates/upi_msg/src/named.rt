@@ -77,26 +77,28 @@ fn lot_after<'a>(lot: Lot<'a>, same: bool, index: usize, value: &'a str) -> Lot<
 }
 
 /// What a list has of two names, where each of its items is a named value.
+#[tactic(auto, using(crate::proofs::Lots::passed_item, crate::proofs::Lots::faulty_item, crate::proofs::Lots::held_item, crate::proofs::Lots::ended_items, crate::proofs::Lots::ended_lot))]
 pub(crate) fn lots_of<'a>(
     part: Part,
     list: Name,
     items: Spots<'_, 'a>,
-    names: (&str, &str),
+    one: &str,
+    other: &str,
 ) -> Result<(Lot<'a>, Lot<'a>), Fault>
     requires { spots_passed items ≡ 0 }
     ensures fault { MatchResult result
         (λ _. Named.IsNamedList (Named.named_items part list 0 (spots_data items.entry)))
         (λ e. Named.named_items part list 0 (spots_data items.entry) ≡ Err e) }
-    ensures first { IfOk result (λ p. IsLot p.0 names.0.now (spots_data items.entry)) }
-    ensures second { IfOk result (λ p. IsLot p.1 names.1.now (spots_data items.entry)) }
+    ensures first { IfOk result (λ p. IsLot p.0 one.now (spots_data items.entry)) }
+    ensures second { IfOk result (λ p. IsLot p.1 other.now (spots_data items.entry)) }
 {
     let mut items = items;
     let mut first = Lot::Nothing;
     let mut second = Lot::Nothing;
     'items: while let Some(next) = next_item(&mut items) {
         let (name, value) = named_item(part, list, next.0, next.1)?;
-        first = lot_after(first, is_same(name, names.0), next.0, value);
-        second = lot_after(second, is_same(name, names.1), next.0, value);
+        first = lot_after(first, is_same(name, one), next.0, value);
+        second = lot_after(second, is_same(name, other), next.0, value);
     }
     Ok((first, second))
 }
@@ -119,17 +121,18 @@ pub(crate) fn two_named<'a>(
     part: Part,
     list: Name,
     items: Spots<'_, 'a>,
-    names: (&str, &str),
+    one: &str,
+    other: &str,
 ) -> Result<(Option<(usize, &'a str)>, Option<(usize, &'a str)>), Fault>
     requires { spots_passed items ≡ 0 }
     ensures fault { MatchResult result
         (λ _. Named.IsNamedList (Named.named_items part list 0 (spots_data items.entry)))
         (λ e. Named.named_items part list 0 (spots_data items.entry) ≡ Err e) }
     ensures first { IfOk result (λ p. option_map (λ q. (q.0, q.1.now)) p.0
-        ≡ Named.only_named names.0.now (spots_data items.entry)) }
+        ≡ Named.only_named one.now (spots_data items.entry)) }
     ensures second { IfOk result (λ p. option_map (λ q. (q.0, q.1.now)) p.1
-        ≡ Named.only_named names.1.now (spots_data items.entry)) }
+        ≡ Named.only_named other.now (spots_data items.entry)) }
 {
-    let (first, second) = lots_of(part, list, items, names)?;
+    let (first, second) = lots_of(part, list, items, one, other)?;
     Ok((only_named(first), only_named(second)))
 }

@@ -87,7 +87,7 @@ fn account_of(part: Part, value: &Spot<'_, '_>) -> Result<AccountRef, Fault>
     ensures { result ≡ Parties.account_of part (spot_data value.now) }
 {
     let items = list_in(part, Name::Detail, value)?;
-    let (ifsc, number) = two_named(part, Name::Detail, items, ("IFSC", "ACNUM"))?;
+    let (ifsc, number) = two_named(part, Name::Detail, items, "IFSC", "ACNUM")?;
     account_of_parts(part, ifsc, number)
 }
 

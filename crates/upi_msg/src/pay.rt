@@ -1,5 +1,5 @@
 //! Reading a `ReqPay`.
-ghost use Rattle.std.specs.Prelude.{◌≡◌, ◌≤◌, ◌<◌, length, codes, option_map};
+ghost use Rattle.std.specs.Prelude.{◌≡◌, ◌≤◌, ◌<◌, length, codes, Some, option_map};
 ghost use Rattle.std.specs.List.{prefix_len};
 ghost use Rattle.std.specs.Char.{is_ascii_digit};
 ghost use Rattle.std.specs.Str.Parse.{digits_value, AllDigits};
@@ -151,6 +151,15 @@ fn minutes_of(text: &[u8]) -> Option<Minutes>
     Minutes::of(number as u32)
 }
 
+// The minutes of the one rule.
+fn minutes_at(part: Part, index: usize, text: &str) -> Result<Option<Minutes>, Fault>
+    ensures { result ≡ Payments.minutes_at part (Some (index, text.now)) }
+{
+    let place = Place::InItem(part, Name::Rule, index, Name::Value);
+    let minutes = of_value(place, minutes_of(text.as_bytes()))?;
+    Ok(Some(minutes))
+}
+
 // The minutes of what a list of rules has of EXPIREAFTER.
 fn minutes_in(part: Part, lot: Lot<'_>) -> Result<Option<Minutes>, Fault>
     ensures { (ds : Items) → IsLot lot.entry (codes "EXPIREAFTER") ds
@@ -158,11 +167,7 @@ fn minutes_in(part: Part, lot: Lot<'_>) -> Result<Option<Minutes>, Fault>
 {
     match lot {
         Lot::Nothing => Ok(None),
-        Lot::One(index, text) => {
-            let place = Place::InItem(part, Name::Rule, index, Name::Value);
-            let minutes = of_value(place, minutes_of(text.as_bytes()))?;
-            Ok(Some(minutes))
-        }
+        Lot::One(index, text) => minutes_at(part, index, text),
         Lot::Several => Err(Fault {
             place: Place::Member(part, Name::Rule),
             why: MsgWhy::Count,
@@ -176,7 +181,7 @@ fn rules_of(part: Part, value: &Spot<'_, '_>) -> Result<Option<Minutes>, Fault>
     ensures { result ≡ Payments.rules_of part (spot_data value.now) }
 {
     let items = list_in(part, Name::Rule, value)?;
-    let (lot, _) = lots_of(part, Name::Rule, items, ("EXPIREAFTER", ""))?;
+    let (lot, _) = lots_of(part, Name::Rule, items, "EXPIREAFTER", "")?;
     minutes_in(part, lot)
 }
 

@@ -7,10 +7,10 @@ use Rattle.upi_msg.proofs.reader.read_any.Goals as goal
 
 pub returns-in-Some : goal.returns-in-Some
 returns-in-Some c =
-    let read = rw c.in-Some.is at c.in_ok-places.ensures in
+    let read = rw c.in-Some.is at c.in_ok-tape.ensures in
     subst (λ (x : Input). IfOk c.tree_input.result (λ i. i ≡ x)) (sym (ap said_by (tree_some c.args.text.now (placed c.in-Some.tape) read.0 read.1))) c.tree_input.ensures
 
 pub returns-in-None : goal.returns-in-None
 returns-in-None c =
-    let none = rw c.in-None.is at c.in_ok-places.ensures in
+    let none = rw c.in-None.is at c.in_ok-tape.ensures in
     subst (λ (x : Input). IfOk c.bad_input.result (λ i. i ≡ x)) (sym (ap said_by (tree_none c.args.text.now none))) c.bad_input.ensures
