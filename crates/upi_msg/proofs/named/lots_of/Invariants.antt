@@ -7,8 +7,8 @@ use Rattle.upi_msg.proofs.named.lots_of.Given as goal
 abbrev pub invariant-items : goal.invariant-items
 invariant-items l = record {
   rest : named_items l.part l.list (spots_passed l.items) (spots_data l.items) ≡ named_items l.part l.list 0 (spots_data l.initial.items);
-  first : Holds l.one.now (spots_data l.initial.items) l.first (spots_passed l.items) (spots_data l.items);
-  second : Holds l.other.now (spots_data l.initial.items) l.second (spots_passed l.items) (spots_data l.items);
+  first : Holds l.one (spots_data l.initial.items) l.first (spots_passed l.items) (spots_data l.items);
+  second : Holds l.other (spots_data l.initial.items) l.second (spots_passed l.items) (spots_data l.items);
 }
 
 abbrev pub decreases-items : goal.decreases-items
