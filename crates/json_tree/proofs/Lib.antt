@@ -1,3 +1,3 @@
 pub mod Seen
-pub mod Whole
 pub mod Numbers
+pub mod Placed

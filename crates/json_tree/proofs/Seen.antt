@@ -1,5 +1,5 @@
 -- What `serde_json` reads in a value, and what is found in a tree over its text.
-use Rattle.std.proofs.Common.{◌≡◌, ℕ, Bool, true, false, cond, ◌&&◌, List, [], ◌∷◌, Option, Some, None, option_map, option_and_then, is_some, bytes_eq, true≢false, Ordering, Less, Equal, Greater, nat_cmp, is_eq, Bor, length, get_or, ◌≤◌, refl, sym, ap, ◌∙◌, arith}
+use Rattle.std.proofs.Common.{◌≡◌, ℕ, Bool, true, false, cond, ◌&&◌, List, [], ◌∷◌, Option, Some, None, option_map, option_and_then, is_some, bytes_eq, true≢false, Ordering, Less, Equal, Greater, nat_cmp, is_eq, refl, sym, ap, ◌∙◌, subst}
 use Rattle.std.proofs.lemmas.Cmp.{nat_list_cmp_total, tied_itself}
 use Rattle.std.proofs.lemmas.Map.Text.{is_eq-slice_cmp}
 use Rattle.std.proofs.lemmas.Slice.Eq.{bytes_eq-Decides}
@@ -7,14 +7,13 @@ use Rattle.std.specs.Cmp.Lexicographic.{slice_cmp}
 use Rattle.std.specs.Ordering.{match_ordering}
 use Rattle.json.specs.Json as json
 use Rattle.json.specs.Find as found
-use Rattle.json.specs.Value.{value_view, items_view, members_view}
-use Rattle.json.specs.declared.value.Value.{Value}
-use Rattle.serde_json.specs.Data.{Num, Data, number, array, object, Items, item, Members, no_members, member, put}
+use Rattle.json.proofs.Found.{Some_inj}
+use Rattle.serde_json.specs.Data.{Num, Data, null, boolean, number, string, array, object, Items, item, Members, no_members, member, put}
 use Rattle.serde_json.specs.Find.{get, get_member, as_str, as_array, as_object}
 use Rattle.serde_json.specs.Read as serde
 use Rattle.serde_json.specs.Read.{number_of}
 use Rattle.serde_json.proofs.Views.{get_member-put, get_member-put_other}
-use Rattle.json_tree.specs.Seen.{number_or_null, data_of, items_of, members_of, in_range, items_in_range, members_in_range, seen, seen_items, only_of}
+use Rattle.json_tree.specs.Seen.{number_or_null, data_of, items_of, members_of, in_range, items_in_range, members_in_range, only_of, name_of}
 
 -- ---- what `serde_json` reads
 
@@ -88,7 +87,7 @@ members_found name (json.member k j ms) before =
     ∙ ap (or_else (option_map data_of (found.get_member name ms))) (put_found name k (data_of j) before)
     ∙ joined (found.get_member name ms) (bytes_eq k name) j (get_member name before)
 
-get-data_of : (name : List ℕ) (j : json.Json) → get name (data_of j) ≡ option_map data_of (found.get name j)
+pub get-data_of : (name : List ℕ) (j : json.Json) → get name (data_of j) ≡ option_map data_of (found.get name j)
 get-data_of name json.null = refl
 get-data_of name (json.boolean b) = refl
 get-data_of name (json.number s) = go (number_of s)
@@ -99,16 +98,6 @@ get-data_of name (json.number s) = go (number_of s)
 get-data_of name (json.string s) = refl
 get-data_of name (json.array js) = refl
 get-data_of name (json.object ms) = members_found name ms no_members ∙ alone (option_map data_of (found.get_member name ms))
-
-twice : {A : Type 0} (r : Option (Bor (Value A))) → option_map (λ v. seen v.now) r ≡ option_map data_of (option_map (λ v. value_view v.now) r)
-unfolding seen
-twice None = refl
-twice (Some v) = refl
-
--- a member that was found
-pub member-seen : {A : Type 0} (name : List ℕ) (v : Value A) (r : Option (Bor (Value A))) → option_map (λ v. value_view v.now) r ≡ found.get name (value_view v) → option_map (λ v. seen v.now) r ≡ get name (seen v)
-unfolding seen
-member-seen name v r e = twice r ∙ ap (option_map data_of) e ∙ sym (get-data_of name (value_view v))
 
 -- ---- texts and lists
 
@@ -123,15 +112,6 @@ as_str-data_of (json.number s) = go (number_of s)
 as_str-data_of (json.string s) = refl
 as_str-data_of (json.array js) = refl
 as_str-data_of (json.object ms) = refl
-
-pub text-seen : {A : Type 0} (v : Value A) → found.as_str (value_view v) ≡ as_str (seen v)
-unfolding seen
-text-seen v = as_str-data_of (value_view v)
-
-pub items-seen : {A : Type 0} (vs : List (Value A)) → seen_items vs ≡ items_of (items_view vs)
-unfolding seen
-items-seen [] = refl
-items-seen (v ∷ vs) = ap (item (data_of (value_view v))) (items-seen vs)
 
 -- ---- the one member
 
@@ -182,7 +162,7 @@ same_name k l j d ms same = ap (λ n. members_of ms (put n (data_of j) (member k
 
 -- ---- lists and objects
 
-listed : (j : json.Json) → option_map items_of (found.as_array j) ≡ as_array (data_of j)
+pub listed : (j : json.Json) → option_map items_of (found.as_array j) ≡ as_array (data_of j)
 listed json.null = refl
 listed (json.boolean b) = refl
 listed (json.number s) = go (number_of s)
@@ -194,19 +174,10 @@ listed (json.string s) = refl
 listed (json.array js) = refl
 listed (json.object ms) = refl
 
-same_items : {A : Type 0} (r : Option (Bor (List (Value A)))) → option_map (λ l. seen_items l.now) r ≡ option_map items_of (option_map (λ l. items_view l.now) r)
-same_items None = refl
-same_items (Some l) = ap Some (items-seen l.now)
-
--- a list that was found
-pub list-seen : {A : Type 0} (v : Value A) (r : Option (Bor (List (Value A)))) → option_map (λ l. items_view l.now) r ≡ found.as_array (value_view v) → option_map (λ l. seen_items l.now) r ≡ as_array (seen v)
-unfolding seen
-list-seen v r e = same_items r ∙ ap (option_map items_of) e ∙ listed (value_view v)
-
 abbrev pub from_none : json.Members → Members
 from_none ms = members_of ms no_members
 
-objects : (j : json.Json) → option_map from_none (found.as_object j) ≡ as_object (data_of j)
+pub objects : (j : json.Json) → option_map from_none (found.as_object j) ≡ as_object (data_of j)
 objects json.null = refl
 objects (json.boolean b) = refl
 objects (json.number s) = go (number_of s)
@@ -218,20 +189,6 @@ objects (json.string s) = refl
 objects (json.array js) = refl
 objects (json.object ms) = refl
 
-is_some-map : {A B : Type 0} (f : A → B) (o : Option A) → is_some o ≡ is_some (option_map f o)
-is_some-map f None = refl
-is_some-map f (Some x) = refl
-
--- whether an object was found
-pub object-seen : {A B : Type 0} (f : B → json.Members) (v : Value A) (r : Option B) → option_map f r ≡ found.as_object (value_view v) → is_some r ≡ is_some (as_object (seen v))
-unfolding seen
-object-seen f v r e = is_some-map f r ∙ ap is_some e ∙ is_some-map from_none (found.as_object (value_view v)) ∙ ap is_some (objects (value_view v))
-
--- the members of an object that was found
-pub members-seen : {A B : Type 0} (f : B → json.Members) (v : Value A) (r : Option B) → option_map f r ≡ found.as_object (value_view v) → only_of (option_map from_none (option_map f r)) ≡ only_of (as_object (seen v))
-unfolding seen
-members-seen f v r e = ap (λ o. only_of (option_map from_none o)) e ∙ ap only_of (objects (value_view v))
-
 -- ---- members one by one
 
 pub not_same : (a b : List ℕ) (r : Bool) → r ≡ bytes_eq a b → r ≡ false → a ≡ b → ⊥
@@ -240,23 +197,16 @@ not_same a b r e other same = true≢false (sym ((bytes_eq-Decides a b).1 same) 
 pub are_same : (a b : List ℕ) (r : Bool) → r ≡ bytes_eq a b → r ≡ true → a ≡ b
 are_same a b r e holds = (bytes_eq-Decides a b).0 (sym e ∙ holds)
 
-abbrev Entry : Type 0 → Type 0
-Entry A = Bor (List ℕ) × Value A
-
--- a member of another name
-pub turn_other : {A : Type 0} (k : List ℕ) (d : Data) (xs : List (Entry A)) (x : Entry A) (rest : List (Entry A)) → xs ≡ x ∷ rest → (x.0.now ≡ k → ⊥) → None ≡ only_of (Some (members_of (members_view xs) (member k d no_members)))
-turn_other k d xs x rest e other = sym (ap (λ ys. only_of (Some (members_of (members_view ys) (member k d no_members)))) e ∙ other_name k x.0.now (value_view x.1) d (members_view rest) other)
-
--- a member of the same name
-pub turn_same : {A : Type 0} (k : List ℕ) (d : Data) (xs : List (Entry A)) (x : Entry A) (rest : List (Entry A)) → xs ≡ x ∷ rest → x.0.now ≡ k
-    → only_of (Some (members_of (members_view rest) (member k (seen x.1) no_members))) ≡ only_of (Some (members_of (members_view xs) (member k d no_members)))
-unfolding seen
-turn_same k d xs x rest e same = sym (ap (λ ys. only_of (Some (members_of (members_view ys) (member k d no_members)))) e ∙ ap (λ ms. only_of (Some ms)) (same_name k x.0.now (value_view x.1) d (members_view rest) same))
-
--- the first member may go in twice
-pub begun : {A : Type 0} (xs : List (Entry A)) (x : Entry A) → 1 ≤ length xs → x ≡ get_or xs 0 x → members_of (members_view xs) (member x.0.now (seen x.1) no_members) ≡ members_of (members_view xs) no_members
-unfolding seen
-begun [] x some e = absurd (omega arith)
-begun (y ∷ ys) x some e =
-    ap (λ (z : Entry _). members_of (members_view (y ∷ ys)) (member z.0.now (data_of (value_view z.1)) no_members)) e
-    ∙ same_name y.0.now y.0.now (value_view y.1) (data_of (value_view y.1)) (members_view ys) refl
+-- the one member that an object has is the one of its name
+pub one_member : (d : Data) (k : List ℕ) → Some k ≡ name_of (only_of (as_object d)) → option_map {U = List ℕ × Data} (λ v. (k, v)) (get k d) ≡ only_of (as_object d)
+one_member null k h = absurd cc
+one_member (boolean b) k h = absurd cc
+one_member (number n) k h = absurd cc
+one_member (string s) k h = absurd cc
+one_member (array ds) k h = absurd cc
+one_member (object no_members) k h = absurd cc
+one_member (object (member l e no_members)) k h =
+    let same : k ≡ l = Some_inj k l h in
+    subst (λ n. option_map {U = List ℕ × Data} (λ v. (n, v)) (get n (object (member l e no_members))) ≡ Some (l, e)) (sym same)
+    (ap (λ o. option_map {U = List ℕ × Data} (λ v. (l, v)) (match_ordering o None (Some e) None)) (tied_itself nat_list_cmp_total l))
+one_member (object (member l e (member m f ms))) k h = absurd cc

@@ -1,8 +1,6 @@
--- A tree that stands over its text, seen as the tree that `serde_json` gives for that text.
+-- A value of a text, seen as the one that `serde_json` gives for that text.
 use Rattle.std.specs.Prelude.{ℕ, List, [], ◌∷◌, Bool, true, ◌&&◌, Option, Some, None, is_some}
 use Rattle.json.specs.Json as json
-use Rattle.json.specs.Value.{value_view}
-use Rattle.json.specs.declared.value.Value.{Value}
 use Rattle.serde_json.specs.Data.{Num, Data, null, boolean, number, string, array, object, Items, no_items, item, Members, no_members, member, put}
 use Rattle.serde_json.specs.Read.{number_of}
 
@@ -48,22 +46,14 @@ abbrev mutual
   members_in_range json.no_members = true
   members_in_range (json.member k j ms) = in_range j && members_in_range ms
 
--- a tree over its text, seen as `serde_json`'s
-unfoldable pub seen : {A : Type 0} → Value A → Data
-seen v = data_of (value_view v)
-
--- no number of a tree over its text is out of range
-abbrev pub ranged : {A : Type 0} → Value A → Bool
-ranged v = in_range (value_view v)
-
--- the items of a list, seen so
-abbrev pub seen_items : {A : Type 0} → List (Value A) → Items
-seen_items [] = no_items
-seen_items (v ∷ vs) = item (seen v) (seen_items vs)
-
 -- the one member of an object that has one
 abbrev pub only_of : Option Members → Option (List ℕ × Data)
 only_of None = None
 only_of (Some no_members) = None
 only_of (Some (member k d no_members)) = Some (k, d)
 only_of (Some (member k d (member l e ms))) = None
+
+-- its name
+abbrev pub name_of : Option (List ℕ × Data) → Option (List ℕ)
+name_of None = None
+name_of (Some m) = Some m.0

@@ -1,9 +1,12 @@
-//! JSON as a tree over its own text: the tree that `serde_json` gives, without its copies.
+//! JSON by the places of its values in its own text: the values that `serde_json` gives, without its
+//! copies.
 #![tactic(auto)]
 
-mod look;
+mod begin;
 mod number;
-mod reading;
+mod place;
+mod spots;
 
-pub use look::{is_object, list, member, only_member, text};
-pub use reading::tree;
+pub use begin::{Spot, Spots};
+pub use place::places;
+pub use spots::{is_object, list, member, next_item, only_member, root, text};

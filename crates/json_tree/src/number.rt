@@ -1,11 +1,8 @@
 //! Whether numbers are in range.
 ghost use Rattle.std.specs.Prelude.{◌≡◌, ◌==◌, ◌<◌, is_some, slice_index, length, IsTrue, true, false};
 ghost use Rattle.serde_json.specs.Read.{number_of, number_from, float_of};
-ghost use Rattle.json.specs.Value.{value_view, items_view, members_view};
-ghost use Rattle.json_tree.specs.Seen.{in_range, items_in_range, members_in_range};
 
 use fast_float::Numeral;
-use json::Value;
 
 // Whether the nearest float is finite.
 fn is_finite(negative: bool, numeral: &Numeral<'_>) -> bool
@@ -45,7 +42,7 @@ fn has_minus(bytes: &[u8]) -> bool
 }
 
 // Whether the number that a text writes is in range.
-fn is_number(text: &str) -> bool
+pub(crate) fn is_number(text: &str) -> bool
     ensures { result ≡ is_some (number_of text.now) }
 {
     let bytes = text.as_bytes();
@@ -54,45 +51,4 @@ fn is_number(text: &str) -> bool
     } else {
         is_unsigned(&Numeral::scan(bytes))
     }
-}
-
-/// Whether each number of a tree is in range.
-#[cycle(range)]
-pub(crate) fn is_in_range(value: &Value<'_>) -> bool
-    ensures { result ≡ in_range (value_view value.now) }
-{
-    match value {
-        Value::Null => true,
-        Value::Bool(_) => true,
-        Value::Number(text) => is_number(text),
-        Value::String(_) => true,
-        Value::Array(items) => are_in_range(items),
-        Value::Object(members) => have_range(members),
-    }
-}
-
-// Whether each item's numbers are.
-#[cycle(range)]
-fn are_in_range(items: &Vec<Value<'_>>) -> bool
-    ensures { result ≡ items_in_range (items_view items.now.items) }
-{
-    for item in items {
-        if !is_in_range(item) {
-            return false;
-        }
-    }
-    true
-}
-
-// Whether each member's numbers are.
-#[cycle(range)]
-fn have_range(members: &Vec<(&str, Value<'_>)>) -> bool
-    ensures { result ≡ members_in_range (members_view members.now.items) }
-{
-    for member in members {
-        if !is_in_range(&member.1) {
-            return false;
-        }
-    }
-    true
 }

@@ -23,7 +23,7 @@ use Rattle.upi_msg.specs.Places.{name_text}
 use Rattle.upi_msg.specs.Members.{text_of, object_of, list_of, member_at, text_at, object_in, list_in, small_in, moment_in}
 use Rattle.upi_msg.specs.Named.{named_item, only_named}
 use Rattle.upi_msg.specs.Heads.{ver_named, ver_in, head_of}
-use Rattle.upi_msg.specs.Parties.{value_in, amount_of, amount_in, bank_of_ifsc, account_of_items, account_of, ac_of, account_in, payee_of}
+use Rattle.upi_msg.specs.Parties.{value_in, amount_of, amount_in, bank_of_ifsc, account_of_items, account_of_parts, account_of, ac_of, account_in, payee_of}
 use Rattle.upi_msg.specs.Payments.{kind_named, kind_in, note_of, note_in, minutes_of, minutes_in, rules_of, rules_in, no_digits, digits_in, terms_of, payer_of, payee_in, extra_by, extra_by_version, request, pay_of}
 use Rattle.upi_msg.specs.Answering.{result_named, result_in, txn_in, payees_of, payees_in, answer_of, check_of, confirmed_of}
 use Rattle.upi_msg.specs.Read.{root_named, body_of, parts_of, message_of}
@@ -119,7 +119,7 @@ ifsc_back b t =
     rw (whole, letters, front_back b (codes "0000000") 4 four, t) refl
 
 account_some : (r : Root) (w : Who) (d : Data) (a : AccountRef) → get (codes "Ac") d ≡ Some (account_tree a) → IsTypedAccount a → account_in r w d ≡ Ok (Some a)
-unfolding account_in ac_of object_of account_of list_in member_at list_of named_item text_at text_of account_of_items only_named account_tree
+unfolding account_in ac_of object_of account_of list_in member_at list_of named_item text_at text_of account_of_items account_of_parts only_named account_tree
 account_some r w d a e t = rw (e, ifsc_back a.bank t.bank, t.num) refl
 
 account_back : (r : Root) (w : Who) (d : Data) (ac : Option AccountRef) → get (codes "Ac") d ≡ option_map account_tree ac → IsTypedAc ac → account_in r w d ≡ Ok ac

@@ -1,15 +1,13 @@
--- The one member of an object, and the one item of a list.
+-- The one member of an object, and what a text says.
 use Rattle.std.proofs.Common.{◌≡◌, ◌≤◌, ℕ, List, [], ◌∷◌, length, Option, Some, None, is_some, Result, Ok, Err, refl, ap, ◌∙◌, Bool, true, false, if◌then◌else◌, IsUtf8, arith}
 use Rattle.std.specs.Str.{is_utf8}
 use Rattle.std.proofs.lemmas.Str.{IsUtf8-from_is_utf8, is_utf8-from_IsUtf8}
-use Rattle.json.specs.declared.value.Value.{Value}
-use Rattle.json_tree.specs.Seen.{seen_items, only_of}
+use Rattle.json_tree.specs.Seen.{only_of}
 use Rattle.serde_json.specs.Data.{Data, null, boolean, number, string, array, object, Members, no_members, member}
 use Rattle.serde_json.specs.Find.{as_object}
 use Rattle.serde_json.specs.Read.{read}
 use Rattle.upi_msg.specs.Types.{Text, MsgWhy}
 use Rattle.upi_msg.specs.Members.{fault, object_of}
-use Rattle.upi_msg.specs.Parties.{one_of}
 use Rattle.upi_msg.specs.Read.{root_in, root_named, known, no_root, tree_in}
 use Rattle.upi_msg.specs.declared.place.{Root.Root, Place.Place, Fault.Fault}
 
@@ -43,11 +41,6 @@ no_object p (number n) h = refl
 no_object p (string s) h = refl
 no_object p (array ds) h = refl
 no_object p (object ms) h = absurd (cc)
-
-pub one_many : {A : Type 0} (p : Place) (vs : List (Value A)) → 2 ≤ length vs → one_of p (seen_items vs) ≡ fault p MsgWhy.Count
-one_many p [] le = absurd (omega arith)
-one_many p (v ∷ []) le = absurd (omega arith)
-one_many p (v ∷ w ∷ vs) le = refl
 
 pub tree_none : (text : List ℕ) → (IsUtf8 text → read text ≡ None) → tree_in text ≡ None
 unfolding tree_in

@@ -11,3 +11,4 @@ pub mod Answering
 pub mod Read
 pub mod Sending
 pub mod Typed
+pub mod Lots

@@ -1,5 +1,5 @@
 -- Lists of named values, as `Detail` and `Rule` are.
-use Rattle.std.specs.Prelude.{ℕ, ◌+◌, ◌==◌, Bool, false, [], Option, Some, None, option_and_then, unwrap_or, Result, Ok, codes, if◌then◌else◌}
+use Rattle.std.specs.Prelude.{◌≡◌, ℕ, ◌+◌, ◌==◌, Bool, false, [], Option, Some, None, option_and_then, unwrap_or, Result, Ok, codes, if◌then◌else◌}
 use Rattle.std.specs.Option.{option_map_or}
 use Rattle.std.specs.Str.{bytes_eq}
 use Rattle.serde_json.specs.Find.{get, as_str}
@@ -18,6 +18,10 @@ named_item p n i d = do
 abbrev pub named_items : Part → Name → ℕ → Items → Result ℕ Fault
 named_items p n i no_items = Ok i
 named_items p n i (item d ds) = named_item p n i d >>= λ _. named_items p n (i + 1) ds
+
+-- each item is so
+abbrev pub IsNamedList : Result ℕ Fault → Type 0
+IsNamedList r = (n : ℕ) × (r ≡ Ok n)
 
 -- an item has this name
 abbrev pub is_named : Text → Data → Bool

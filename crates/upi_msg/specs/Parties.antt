@@ -27,14 +27,18 @@ amount_in r w d = object_in (Part.Party r w) Name.Amount d >>= amount_of (Part.A
 unfoldable pub bank_of_ifsc : Text → Option Text
 bank_of_ifsc s = if (length s == 11) && is_ac_num s then when (is_bank_code (take 4 s)) (take 4 s) else None
 
--- the account of the named values of a `Detail`: one IFSC and one ACNUM
-unfoldable pub account_of_items : Part → Items → Result AccountRef Fault
-account_of_items p ds = do
-  ifsc ← of_count (Place.Member p Name.Detail) (only_named (codes "IFSC") ds)
-  acnum ← of_count (Place.Member p Name.Detail) (only_named (codes "ACNUM") ds)
+-- the account of the one item of each name that a `Detail` has
+unfoldable pub account_of_parts : Part → Option (ℕ × Text) → Option (ℕ × Text) → Result AccountRef Fault
+account_of_parts p one other = do
+  ifsc ← of_count (Place.Member p Name.Detail) one
+  acnum ← of_count (Place.Member p Name.Detail) other
   bank ← of_value (Place.InItem p Name.Detail ifsc.0 Name.Value) (bank_of_ifsc ifsc.1)
   num ← of_value (Place.InItem p Name.Detail acnum.0 Name.Value) (when (is_ac_num acnum.1) acnum.1)
   Ok (record { bank = bank; num = num })
+
+-- the account of the named values of a `Detail`: one IFSC and one ACNUM
+unfoldable pub account_of_items : Part → Items → Result AccountRef Fault
+account_of_items p ds = account_of_parts p (only_named (codes "IFSC") ds) (only_named (codes "ACNUM") ds)
 
 -- the account of an `Ac` that names one
 unfoldable pub account_of : Part → Data → Result AccountRef Fault

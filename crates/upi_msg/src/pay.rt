@@ -1,18 +1,19 @@
 //! Reading a `ReqPay`.
-ghost use Rattle.std.specs.Prelude.{◌≡◌, ◌≤◌, ◌<◌, length, option_map};
+ghost use Rattle.std.specs.Prelude.{◌≡◌, ◌≤◌, ◌<◌, length, codes, Some, option_map};
 ghost use Rattle.std.specs.List.{prefix_len};
 ghost use Rattle.std.specs.Char.{is_ascii_digit};
 ghost use Rattle.std.specs.Str.Parse.{digits_value, AllDigits};
-ghost use Rattle.json_tree.specs.Seen.{seen, seen_items};
+ghost use Rattle.json_tree.specs.Spots.{spot_data};
 ghost use Rattle.upi_msg.specs.Payments;
+ghost use Rattle.upi_msg.specs.Types.{Items};
+ghost use Rattle.upi_msg.specs.Lots.{IsLot};
 
 use crate::head::head_of;
 use crate::member::{list_in, object_in, object_of, of_value, small_in, text_at, text_of};
-use crate::named::{count_named, find_named, named_items};
+use crate::named::{Lot, lots_of};
 use crate::party::{account_in, amount_in, amount_of, payee_of};
 use crate::place::{Fault, Name, Part, Place, Root, Who};
-use json::Value;
-use json_tree::member;
+use json_tree::{Spot, member};
 use upi_base::{
     AccountRef, Addr, Extra, Head, Kind, Minutes, MsgWhy, Note, Paise, PayReq, TwoDigits, TxnId,
     Ver,
@@ -70,8 +71,8 @@ fn kind_named(text: &str) -> Option<Kind>
 
 // `type`.
 #[tactic(auto, unfolding(crate::specs::Payments::kind_in))]
-fn kind_in(part: Part, value: &Value<'_>) -> Result<Kind, Fault>
-    ensures { result ≡ Payments.kind_in part (seen value.now) }
+fn kind_in(part: Part, value: &Spot<'_, '_>) -> Result<Kind, Fault>
+    ensures { result ≡ Payments.kind_in part (spot_data value.now) }
 {
     let place = Place::Member(part, Name::Type);
     let text = text_at(place, Name::Type, value)?;
@@ -93,14 +94,14 @@ fn note_of(place: Place, text: &[u8]) -> Result<Option<Note>, Fault>
 
 // `note`.
 #[tactic(auto, unfolding(crate::specs::Payments::note_in))]
-fn note_in(part: Part, value: &Value<'_>) -> Result<Option<Note>, Fault>
-    ensures { result ≡ Payments.note_in part (seen value.now) }
+fn note_in(part: Part, value: &Spot<'_, '_>) -> Result<Option<Note>, Fault>
+    ensures { result ≡ Payments.note_in part (spot_data value.now) }
 {
     let place = Place::Member(part, Name::Note);
     match member(value, "note") {
         None => Ok(None),
         Some(note) => {
-            let text = text_of(place, note)?;
+            let text = text_of(place, &note)?;
             note_of(place, text.as_bytes())
         }
     }
@@ -150,46 +151,49 @@ fn minutes_of(text: &[u8]) -> Option<Minutes>
     Minutes::of(number as u32)
 }
 
-// The minutes of a list of rules.
-#[tactic(auto, unfolding(crate::specs::Payments::minutes_in))]
-fn minutes_in(part: Part, items: &[Value<'_>]) -> Result<Option<Minutes>, Fault>
-    ensures { result ≡ Payments.minutes_in part (seen_items items.now) }
+// The minutes of the one rule.
+fn minutes_at(part: Part, index: usize, text: &str) -> Result<Option<Minutes>, Fault>
+    ensures { result ≡ Payments.minutes_at part (Some (index, text.now)) }
 {
-    if count_named(items, "EXPIREAFTER") > 1 {
-        return Err(Fault {
+    let place = Place::InItem(part, Name::Rule, index, Name::Value);
+    let minutes = of_value(place, minutes_of(text.as_bytes()))?;
+    Ok(Some(minutes))
+}
+
+// The minutes of what a list of rules has of EXPIREAFTER.
+fn minutes_in(part: Part, lot: Lot<'_>) -> Result<Option<Minutes>, Fault>
+    ensures { (ds : Items) → IsLot lot.entry (codes "EXPIREAFTER") ds
+        → result ≡ Payments.minutes_in part ds }
+{
+    match lot {
+        Lot::Nothing => Ok(None),
+        Lot::One(index, text) => minutes_at(part, index, text),
+        Lot::Several => Err(Fault {
             place: Place::Member(part, Name::Rule),
             why: MsgWhy::Count,
-        });
-    }
-    match find_named(items, "EXPIREAFTER") {
-        None => Ok(None),
-        Some((index, text)) => {
-            let place = Place::InItem(part, Name::Rule, index, Name::Value);
-            let minutes = of_value(place, minutes_of(text.as_bytes()))?;
-            Ok(Some(minutes))
-        }
+        }),
     }
 }
 
 // The members of `Rules`.
 #[tactic(auto, unfolding(crate::specs::Payments::rules_of))]
-fn rules_of(part: Part, value: &Value<'_>) -> Result<Option<Minutes>, Fault>
-    ensures { result ≡ Payments.rules_of part (seen value.now) }
+fn rules_of(part: Part, value: &Spot<'_, '_>) -> Result<Option<Minutes>, Fault>
+    ensures { result ≡ Payments.rules_of part (spot_data value.now) }
 {
     let items = list_in(part, Name::Rule, value)?;
-    named_items(part, Name::Rule, items)?;
-    minutes_in(part, items)
+    let (lot, _) = lots_of(part, Name::Rule, items, "EXPIREAFTER", "")?;
+    minutes_in(part, lot)
 }
 
 // `Rules`, which may be there.
-fn rules_in(root: Root, value: &Value<'_>) -> Result<Option<Minutes>, Fault>
-    ensures { result ≡ Payments.rules_in root (seen value.now) }
+fn rules_in(root: Root, value: &Spot<'_, '_>) -> Result<Option<Minutes>, Fault>
+    ensures { result ≡ Payments.rules_in root (spot_data value.now) }
 {
     match member(value, "Rules") {
         None => Ok(None),
         Some(rules) => {
             let rules = object_of(Place::Member(Part::Txn(root), Name::Rules), rules)?;
-            rules_of(Part::Rules(root), rules)
+            rules_of(Part::Rules(root), &rules)
         }
     }
 }
@@ -205,21 +209,21 @@ fn no_digits() -> TwoDigits
 }
 
 // Two digits that may be there.
-fn digits_at(place: Place, value: Option<&Value<'_>>) -> Result<TwoDigits, Fault>
-    ensures { result ≡ Payments.digits_at place (option_map (λ v. seen v.now) value.entry) }
+fn digits_at(place: Place, value: Option<Spot<'_, '_>>) -> Result<TwoDigits, Fault>
+    ensures { result ≡ Payments.digits_at place (option_map spot_data value.entry) }
 {
     match value {
         None => Ok(no_digits()),
         Some(value) => {
-            let text = text_of(place, value)?;
+            let text = text_of(place, &value)?;
             of_value(place, TwoDigits::read(text.as_bytes()))
         }
     }
 }
 
 // Two digits that version 2.0 has.
-fn digits_in(ver: Ver, place: Place, value: Option<&Value<'_>>) -> Result<TwoDigits, Fault>
-    ensures { result ≡ Payments.digits_in ver place (option_map (λ v. seen v.now) value.entry) }
+fn digits_in(ver: Ver, place: Place, value: Option<Spot<'_, '_>>) -> Result<TwoDigits, Fault>
+    ensures { result ≡ Payments.digits_in ver place (option_map spot_data value.entry) }
 {
     match ver {
         Ver::One => Ok(no_digits()),
@@ -229,19 +233,19 @@ fn digits_in(ver: Ver, place: Place, value: Option<&Value<'_>>) -> Result<TwoDig
 
 // `Txn`.
 #[tactic(auto, unfolding(crate::specs::Payments::terms_of))]
-fn terms_of(root: Root, ver: Ver, value: &Value<'_>) -> Result<Terms, Fault>
-    ensures { result ≡ Payments.terms_of root ver (seen value.now) }
+fn terms_of(root: Root, ver: Ver, value: &Spot<'_, '_>) -> Result<Terms, Fault>
+    ensures { result ≡ Payments.terms_of root ver (spot_data value.now) }
 {
     let txn = object_in(Part::Root(root), Name::Txn, value)?;
     let part = Part::Txn(root);
-    let id: TxnId = small_in(part, Name::Id, txn)?;
-    let kind = kind_in(part, txn)?;
-    let note = note_in(part, txn)?;
-    let expire = rules_in(root, txn)?;
+    let id: TxnId = small_in(part, Name::Id, &txn)?;
+    let kind = kind_in(part, &txn)?;
+    let note = note_in(part, &txn)?;
+    let expire = rules_in(root, &txn)?;
     let place = Place::Member(part, Name::InitiationMode);
-    let mode = digits_in(ver, place, member(txn, "initiationMode"))?;
+    let mode = digits_in(ver, place, member(&txn, "initiationMode"))?;
     let place = Place::Member(part, Name::Purpose);
-    let purpose = digits_in(ver, place, member(txn, "purpose"))?;
+    let purpose = digits_in(ver, place, member(&txn, "purpose"))?;
     Ok(Terms {
         txn: id,
         kind,
@@ -254,13 +258,13 @@ fn terms_of(root: Root, ver: Ver, value: &Value<'_>) -> Result<Terms, Fault>
 
 // `Payer`.
 #[tactic(auto, unfolding(crate::specs::Payments::payer_of))]
-fn payer_of(root: Root, value: &Value<'_>) -> Result<Payer, Fault>
-    ensures { result ≡ Payments.payer_of root (seen value.now) }
+fn payer_of(root: Root, value: &Spot<'_, '_>) -> Result<Payer, Fault>
+    ensures { result ≡ Payments.payer_of root (spot_data value.now) }
 {
     let payer = object_in(Part::Root(root), Name::Payer, value)?;
-    let addr: Addr = small_in(Part::Party(root, Who::Payer), Name::Addr, payer)?;
-    let amount = amount_in(root, Who::Payer, payer)?;
-    let ac = account_in(root, Who::Payer, payer)?;
+    let addr: Addr = small_in(Part::Party(root, Who::Payer), Name::Addr, &payer)?;
+    let amount = amount_in(root, Who::Payer, &payer)?;
+    let ac = account_in(root, Who::Payer, &payer)?;
     Ok(Payer { addr, amount, ac })
 }
 
@@ -279,8 +283,8 @@ fn same_amount(place: Place, first: Paise, second: Paise) -> Result<Paise, Fault
 }
 
 // The payee's `Amount`, which may be there.
-fn again_at(root: Root, amount: Paise, value: Option<&Value<'_>>) -> Result<Paise, Fault>
-    ensures { result ≡ Payments.again_at root amount (option_map (λ v. seen v.now) value.entry) }
+fn again_at(root: Root, amount: Paise, value: Option<Spot<'_, '_>>) -> Result<Paise, Fault>
+    ensures { result ≡ Payments.again_at root amount (option_map spot_data value.entry) }
 {
     match value {
         None => Ok(amount),
@@ -288,7 +292,7 @@ fn again_at(root: Root, amount: Paise, value: Option<&Value<'_>>) -> Result<Pais
             let place = Place::Member(Part::Party(root, Who::Payee), Name::Amount);
             let again = object_of(place, value)?;
             let part = Part::Amount(root, Who::Payee);
-            let again = amount_of(part, again)?;
+            let again = amount_of(part, &again)?;
             same_amount(Place::Member(part, Name::Value), amount, again)
         }
     }
@@ -296,14 +300,14 @@ fn again_at(root: Root, amount: Paise, value: Option<&Value<'_>>) -> Result<Pais
 
 // `Payees`.
 #[tactic(auto, unfolding(crate::specs::Payments::payee_in))]
-fn payee_in(root: Root, amount: Paise, value: &Value<'_>) -> Result<Payee, Fault>
-    ensures { result ≡ Payments.payee_in root amount (seen value.now) }
+fn payee_in(root: Root, amount: Paise, value: &Spot<'_, '_>) -> Result<Payee, Fault>
+    ensures { result ≡ Payments.payee_in root amount (spot_data value.now) }
 {
     let payees = object_in(Part::Root(root), Name::Payees, value)?;
-    let payee = payee_of(root, payees)?;
-    let addr: Addr = small_in(Part::Party(root, Who::Payee), Name::Addr, payee)?;
-    again_at(root, amount, member(payee, "Amount"))?;
-    let ac = account_in(root, Who::Payee, payee)?;
+    let payee = payee_of(root, &payees)?;
+    let addr: Addr = small_in(Part::Party(root, Who::Payee), Name::Addr, &payee)?;
+    again_at(root, amount, member(&payee, "Amount"))?;
+    let ac = account_in(root, Who::Payee, &payee)?;
     Ok(Payee { addr, ac })
 }
 
@@ -340,8 +344,8 @@ pub(crate) fn request(head: Head, terms: Terms, payer: Payer, payee: Payee) -> P
 
 /// A `ReqPay`.
 #[tactic(auto, unfolding(crate::specs::Payments::pay_of))]
-pub(crate) fn pay_of(value: &Value<'_>) -> Result<PayReq, Fault>
-    ensures { result ≡ Payments.pay_of (seen value.now) }
+pub(crate) fn pay_of(value: &Spot<'_, '_>) -> Result<PayReq, Fault>
+    ensures { result ≡ Payments.pay_of (spot_data value.now) }
 {
     let root = Root::ReqPay;
     let head = head_of(root, value)?;

@@ -1,7 +1,7 @@
 //! Reading what a PSP sends.
 ghost use Rattle.std.specs.Prelude.{◌≡◌, IfOk};
 ghost use Rattle.serde_json.specs.Find.{as_object};
-ghost use Rattle.json_tree.specs.Seen.{seen};
+ghost use Rattle.json_tree.specs.Spots.{spot_data};
 ghost use Rattle.upi_msg.specs.Read;
 ghost use Rattle.upi_msg.specs.Members.{Gives};
 ghost use Rattle.upi_msg.specs.Typed.{ReadsBack};
@@ -12,8 +12,8 @@ use crate::head::head_of;
 use crate::member::object_of;
 use crate::pay::pay_of;
 use crate::place::{Fault, Part, Place, Root, bad_of};
-use json::{Scratch, Value};
-use json_tree::{only_member, tree};
+use json::Scratch;
+use json_tree::{Spot, only_member, places, root};
 use std::alloc::Global;
 use upi_base::{Api, Boxed, Input, Message, MsgWhy, NoMemory};
 
@@ -53,9 +53,9 @@ fn no_root() -> Fault
 }
 
 // A member, which has the name of a root.
-fn root_and<'v, 'a>(name: &str, body: &'v Value<'a>) -> Result<(Root, &'v Value<'a>), Fault>
-    ensures { Gives (λ p. (p.0, seen p.1.now)) result
-        (Read.known (seen body.entry.now) (Read.root_named name.now)) }
+fn root_and<'t, 'a>(name: &str, body: Spot<'t, 'a>) -> Result<(Root, Spot<'t, 'a>), Fault>
+    ensures { Gives (λ p. (p.0, spot_data p.1)) result
+        (Read.known (spot_data body.entry) (Read.root_named name.now)) }
 {
     match root_named(name) {
         Some(root) => Ok((root, body)),
@@ -64,9 +64,9 @@ fn root_and<'v, 'a>(name: &str, body: &'v Value<'a>) -> Result<(Root, &'v Value<
 }
 
 // The one member of a tree, which has the name of a root.
-fn root_in<'v, 'a>(value: &'v Value<'a>) -> Result<(Root, &'v Value<'a>), Fault>
-    ensures { Gives (λ p. (p.0, seen p.1.now)) result
-        (Read.root_in (as_object (seen value.entry.now))) }
+fn root_in<'t, 'a>(value: &Spot<'t, 'a>) -> Result<(Root, Spot<'t, 'a>), Fault>
+    ensures { Gives (λ p. (p.0, spot_data p.1)) result
+        (Read.root_in (as_object (spot_data value.entry.now))) }
 {
     match only_member(value) {
         Some((name, body)) => root_and(name, body),
@@ -82,8 +82,8 @@ fn bad_input(alloc: Global, fault: Fault) -> Result<Input, NoMemory>
 }
 
 // What is told of a payment.
-fn pay_input(alloc: Global, value: &Value<'_>) -> Result<Input, NoMemory>
-    ensures { IfOk result (λ i. i ≡ Read.judged (Read.body_of Root.ReqPay (seen value.now))) }
+fn pay_input(alloc: Global, value: &Spot<'_, '_>) -> Result<Input, NoMemory>
+    ensures { IfOk result (λ i. i ≡ Read.judged (Read.body_of Root.ReqPay (spot_data value.now))) }
 {
     match pay_of(value) {
         Ok(request) => Ok(Input::Good(Message::Pay(Boxed::new(alloc, request)?))),
@@ -92,8 +92,8 @@ fn pay_input(alloc: Global, value: &Value<'_>) -> Result<Input, NoMemory>
 }
 
 // What is told of a yes or a no.
-fn answer_input(alloc: Global, value: &Value<'_>) -> Result<Input, NoMemory>
-    ensures { IfOk result (λ i. i ≡ Read.judged (Read.body_of Root.RespAuthDetails (seen value.now))) }
+fn answer_input(alloc: Global, value: &Spot<'_, '_>) -> Result<Input, NoMemory>
+    ensures { IfOk result (λ i. i ≡ Read.judged (Read.body_of Root.RespAuthDetails (spot_data value.now))) }
 {
     match answer_of(value) {
         Ok(answer) => Ok(Input::Good(Message::AuthAnswer(Boxed::new(alloc, answer)?))),
@@ -102,8 +102,8 @@ fn answer_input(alloc: Global, value: &Value<'_>) -> Result<Input, NoMemory>
 }
 
 // What is told of a question for a status.
-fn check_input(alloc: Global, value: &Value<'_>) -> Result<Input, NoMemory>
-    ensures { IfOk result (λ i. i ≡ Read.judged (Read.body_of Root.ReqChkTxn (seen value.now))) }
+fn check_input(alloc: Global, value: &Spot<'_, '_>) -> Result<Input, NoMemory>
+    ensures { IfOk result (λ i. i ≡ Read.judged (Read.body_of Root.ReqChkTxn (spot_data value.now))) }
 {
     match check_of(value) {
         Ok(check) => Ok(Input::Good(Message::Check(check))),
@@ -112,9 +112,9 @@ fn check_input(alloc: Global, value: &Value<'_>) -> Result<Input, NoMemory>
 }
 
 // What is told of the answer to a confirmation.
-fn confirmed_input(alloc: Global, value: &Value<'_>) -> Result<Input, NoMemory>
+fn confirmed_input(alloc: Global, value: &Spot<'_, '_>) -> Result<Input, NoMemory>
     ensures { IfOk result
-        (λ i. i ≡ Read.judged (Read.body_of Root.RespTxnConfirmation (seen value.now))) }
+        (λ i. i ≡ Read.judged (Read.body_of Root.RespTxnConfirmation (spot_data value.now))) }
 {
     match confirmed_of(value) {
         Ok(answer) => Ok(Input::Good(Message::Confirmed(Boxed::new(alloc, answer)?))),
@@ -123,8 +123,8 @@ fn confirmed_input(alloc: Global, value: &Value<'_>) -> Result<Input, NoMemory>
 }
 
 // What is told of a message that a PSP may not send.
-fn foreign_input(alloc: Global, api: Api, value: &Value<'_>) -> Result<Input, NoMemory>
-    ensures { IfOk result (λ i. i ≡ Read.judged (Read.body_of (Root.Foreign api) (seen value.now))) }
+fn foreign_input(alloc: Global, api: Api, value: &Spot<'_, '_>) -> Result<Input, NoMemory>
+    ensures { IfOk result (λ i. i ≡ Read.judged (Read.body_of (Root.Foreign api) (spot_data value.now))) }
 {
     match head_of(Root::Foreign(api), value) {
         Ok(head) => Ok(Input::Good(Message::Foreign { api, head })),
@@ -133,8 +133,8 @@ fn foreign_input(alloc: Global, api: Api, value: &Value<'_>) -> Result<Input, No
 }
 
 // What is told of the message of a root.
-fn body_input(alloc: Global, root: Root, value: &Value<'_>) -> Result<Input, NoMemory>
-    ensures { IfOk result (λ i. i ≡ Read.judged (Read.body_of root (seen value.now))) }
+fn body_input(alloc: Global, root: Root, value: &Spot<'_, '_>) -> Result<Input, NoMemory>
+    ensures { IfOk result (λ i. i ≡ Read.judged (Read.body_of root (spot_data value.now))) }
 {
     match root {
         Root::ReqPay => pay_input(alloc, value),
@@ -147,8 +147,8 @@ fn body_input(alloc: Global, root: Root, value: &Value<'_>) -> Result<Input, NoM
 
 // The root of a tree, and its body, an object.
 #[tactic(auto, unfolding(crate::specs::Read::parts_of))]
-fn parts_of<'v, 'a>(value: &'v Value<'a>) -> Result<(Root, &'v Value<'a>), Fault>
-    ensures { Gives (λ p. (p.0, seen p.1.now)) result (Read.parts_of (seen value.entry.now)) }
+fn parts_of<'t, 'a>(value: &Spot<'t, 'a>) -> Result<(Root, Spot<'t, 'a>), Fault>
+    ensures { Gives (λ p. (p.0, spot_data p.1)) result (Read.parts_of (spot_data value.entry.now)) }
 {
     let (root, body) = root_in(value)?;
     let body = object_of(Place::Part(Part::Root(root)), body)?;
@@ -157,11 +157,11 @@ fn parts_of<'v, 'a>(value: &'v Value<'a>) -> Result<(Root, &'v Value<'a>), Fault
 
 // What is told of a tree.
 #[tactic(auto, unfolding(crate::specs::Read::message_of))]
-fn tree_input(alloc: Global, value: &Value<'_>) -> Result<Input, NoMemory>
-    ensures { IfOk result (λ i. i ≡ Read.judged (Read.message_of (seen value.now))) }
+fn tree_input(alloc: Global, value: &Spot<'_, '_>) -> Result<Input, NoMemory>
+    ensures { IfOk result (λ i. i ≡ Read.judged (Read.message_of (spot_data value.now))) }
 {
     match parts_of(value) {
-        Ok((root, body)) => body_input(alloc, root, body),
+        Ok((root, body)) => body_input(alloc, root, &body),
         Err(fault) => bad_input(alloc, fault),
     }
 }
@@ -170,8 +170,8 @@ fn tree_input(alloc: Global, value: &Value<'_>) -> Result<Input, NoMemory>
 fn read_any(alloc: Global, text: &[u8], scratch: &mut Scratch) -> Result<Input, NoMemory>
     ensures { IfOk result (λ i. i ≡ Read.input_of text.now) }
 {
-    match tree(alloc, text, scratch)? {
-        Some(value) => tree_input(alloc, &value),
+    match places(alloc, text, scratch)? {
+        Some(tape) => tree_input(alloc, &root(&tape)),
         None => bad_input(
             alloc,
             Fault {
