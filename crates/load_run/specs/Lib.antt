@@ -1,3 +1,4 @@
 pub mod LoadLines
 pub mod Runs
 pub mod Summaries
+pub mod Laws

@@ -29,3 +29,9 @@ summary_text count seed s = codes "LOAD " ++ decimal count ++ codes " " ++ decim
 abbrev pub LoadAnswer : ℕ → ℕ → Result Summary LoadFault → Type 0
 LoadAnswer count seed (Ok s) = (q : Played) × (play (load_lines count seed) ≡ Ok q) × (s ≡ summary_of q.play.setup.lines q.play.history)
 LoadAnswer count seed (Err fault) = Stops (load_lines count seed) fault
+
+-- No line was refused.
+abbrev pub IsPlayed : Result Summary LoadFault → Type 0
+IsPlayed (Ok s) = Unit {0}
+IsPlayed (Err (LoadFault.Refused line field w)) = ⊥
+IsPlayed (Err LoadFault.NoMemory) = Unit {0}

@@ -1,6 +1,7 @@
 //! Runs a load: plays its lines as a script's, and sums up what became of them.
 #![tactic(auto)]
 
+pub mod laws;
 pub mod run;
 pub mod summary;
 

@@ -16,7 +16,7 @@ use upi_base::{EngineFault, NoMemory, Summary, Why};
 /// Why a load isn't run to its end.
 #[derive(Clone, Copy, Debug, PartialEq, Eq)]
 pub enum LoadFault {
-    /// A script refuses one of its lines. No load is known of which this comes.
+    /// A script refuses one of its lines. By `load_laws` this doesn't come.
     Refused {
         /// The place of the line, the first being 1.
         line: u64,
@@ -162,7 +162,8 @@ impl Runner {
 /// more, and then it closes. Names of transactions are hashed with `hashes`.
 ///
 /// Conditions: at most 50,000 payments, and a seed of at most 2,147,483,647. `Refused` comes exactly
-/// where a script refuses one of the lines, with the first such line; `NoMemory` may come at any time.
+/// where a script refuses one of the lines, with the first such line; by `load_laws` none is refused.
+/// `NoMemory` may come at any time.
 pub fn run_load(
     alloc: Global,
     hashes: RandomState,
