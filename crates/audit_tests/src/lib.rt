@@ -5,6 +5,8 @@
 #[cfg(test)]
 mod examples;
 #[cfg(test)]
+mod loads;
+#[cfg(test)]
 mod spoiled;
 #[cfg(test)]
 mod verdicts;

@@ -2,7 +2,7 @@
 //! is changed, and how: `=` another line in its place, `-` none, `>` another line after it, `!` another
 //! in its place, with which the journal ends. What is said is the verdict; or BAD, with the number of
 //! the first line that is refused (0 where the journal ends too early), of the word, and why. `'` stands
-//! for `"`. Each table has a row of a change by which nothing is wrong.
+//! for `"`, and `~` for a byte that no text has. Each table has a row of a change by which nothing is wrong.
 
 /// Changes of `ONE_PAYMENT`.
 pub const PAID: &str = "YES 11;10;>;# FULL 7
@@ -199,3 +199,189 @@ NO 8 SENT;25;=;M 7 SWITCH alpha RESPPAY T1 SUCCESS
 NO 9 REPLY;27;=;E 9 0 1704067230 HEAR alpha {'ReqChkTxn':{'Head':{'msgId':'A3','orgId':'alpha','ts':'2024-01-01T05:30:00+05:30','ver':'1.0'},'Txn':{'id':'T1'}}} = STATUS SUCCESS
 NO 7 REPORT;40;-;
 NO 10 REPORT;43;=;FLIGHT,,,,0.00,";
+
+/// Changes of `ONE_PAYMENT`: what is heard in place of the answer to the question.
+pub const PAID_ANSWERS: &str =
+    "YES 11;15;=;E 3 0 1704067200 HEAR beta {'RespAuthDetails':{'Head':{'msgId':'B1','orgId':'beta','ts':'2024-01-01T05:30:00+05:30','ver':'1.0'},'Payer':{'Amount':{'curr':'INR','value':'30.00'}},'Resp':{'reqMsgId':'M1','result':'SUCCESS'},'Txn':{'id':'T1'}}} = OK
+NO 3 SENT;15;=;E 3 0 1704067200 HEAR beta {'RespAuthDetails':{'Head':{'msgId':'B1','orgId':'beta','ts':'2024-01-01T05:30:00+05:30','ver':'1.0'},'Payer':{'Amount':{'curr':'INR','value':'30.00'}},'Resp':{'reqMsgId':'M1','result':'FAILURE'},'Txn':{'id':'T1'}}} = OK
+NO 3 SENT;15;=;E 3 0 1704067200 HEAR beta {'RespAuthDetails':{'Head':{'msgId':'B1','orgId':'beta','ts':'2024-01-01T05:30:00+05:30','ver':'1.0'},'Payer':{'Amount':{'curr':'INR','value':'31.00'}},'Resp':{'reqMsgId':'M1','result':'SUCCESS'},'Txn':{'id':'T1'}}} = NO AMT
+NO 3 REPLY;15;=;E 3 0 1704067200 HEAR beta {'RespAuthDetails':{'Head':{'msgId':'B1','orgId':'beta','ts':'2024-01-01T05:30:00+05:30','ver':'1.0'},'Payer':{'Amount':{'curr':'INR','value':'31.00'}},'Resp':{'reqMsgId':'M1','result':'SUCCESS'},'Txn':{'id':'T1'}}} = OK
+NO 3 REPLY;15;=;E 3 0 1704067200 HEAR alpha {'RespAuthDetails':{'Head':{'msgId':'A2','orgId':'alpha','ts':'2024-01-01T05:30:00+05:30','ver':'1.0'},'Payer':{'Amount':{'curr':'INR','value':'30.00'}},'Resp':{'reqMsgId':'M1','result':'SUCCESS'},'Txn':{'id':'T1'}}} = OK
+NO 3 SENT;15;=;E 3 0 1704067200 HEAR alpha {'RespAuthDetails':{'Head':{'msgId':'A2','orgId':'alpha','ts':'2024-01-01T05:30:00+05:30','ver':'1.0'},'Payer':{'Amount':{'curr':'INR','value':'30.00'}},'Resp':{'reqMsgId':'M1','result':'SUCCESS'},'Txn':{'id':'T1'}}} = NO NOTYOURS
+NO 3 REPLY;15;=;E 3 0 1704067200 HEAR beta {'RespAuthDetails':{'Head':{'msgId':'B1','orgId':'beta','ts':'2024-01-01T05:30:00+05:30','ver':'1.0'},'Payer':{'Amount':{'curr':'INR','value':'30.00'}},'Resp':{'reqMsgId':'M1','result':'SUCCESS'},'Txn':{'id':'T2'}}} = NO NOTYOURS
+NO 3 SENT;15;=;E 3 0 1704067200 HEAR beta {'RespAuthDetails':{'Head':{'msgId':'B1','orgId':'beta','ts':'2024-01-01T05:30:00+05:30','ver':'1.0'},'Payer':{'Amount':{'curr':'INR','value':'30.00'}},'Resp':{'reqMsgId':'M1','result':'SUCCESS'},'Txn':{'id':'T2'}}} = NO NOTXN
+NO 3 SENT;15;=;E 3 0 1704067200 HEAR beta {'RespTxnConfirmation':{'Head':{'msgId':'B2','orgId':'beta','ts':'2024-01-01T05:30:00+05:30','ver':'1.0'},'Resp':{'reqMsgId':'M8'},'Txn':{'id':'T1'}}} = NO EARLY
+NO 3 REPLY;15;=;E 3 0 1704067200 HEAR beta {'RespTxnConfirmation':{'Head':{'msgId':'B2','orgId':'beta','ts':'2024-01-01T05:30:00+05:30','ver':'1.0'},'Resp':{'reqMsgId':'M8'},'Txn':{'id':'T1'}}} = OK
+NO 3 SENT;15;=;E 3 0 1704067200 HEAR alpha {'ReqChkTxn':{'Head':{'msgId':'A3','orgId':'alpha','ts':'2024-01-01T05:30:00+05:30','ver':'1.0'},'Txn':{'id':'T1'}}} = STATUS PENDING
+NO 3 REPLY;15;=;E 3 0 1704067200 HEAR alpha {'ReqChkTxn':{'Head':{'msgId':'A3','orgId':'alpha','ts':'2024-01-01T05:30:00+05:30','ver':'1.0'},'Txn':{'id':'T1'}}} = STATUS SUCCESS";
+
+/// Changes of `ONE_PAYMENT`: payments that are asked for behind the outcome, each with the reply that is due,
+/// and with another.
+pub const PAID_PAYS: &str =
+    "YES 11;26;=;E 8 0 1704067200 HEAR alpha {'ReqPay':{'Head':{'msgId':'A2','orgId':'alpha','ts':'2024-01-01T05:30:00+05:30','ver':'1.0'},'Payees':{'Payee':[{'addr':'bob@beta'}]},'Payer':{'Amount':{'curr':'INR','value':'30.00'},'addr':'ann@alpha'},'Txn':{'id':'T1','type':'PAY'}}} = OK
+NO 8 REPLY;26;=;E 8 0 1704067200 HEAR alpha {'ReqPay':{'Head':{'msgId':'A2','orgId':'alpha','ts':'2024-01-01T05:30:00+05:30','ver':'1.0'},'Payees':{'Payee':[{'addr':'bob@beta'}]},'Payer':{'Amount':{'curr':'INR','value':'30.00'},'addr':'ann@alpha'},'Txn':{'id':'T1','type':'PAY'}}} = NO DUP
+YES 11;26;=;E 8 0 1704067200 HEAR alpha {'ReqPay':{'Head':{'msgId':'A2','orgId':'alpha','ts':'2024-01-01T05:30:00+05:30','ver':'1.0'},'Payees':{'Payee':[{'addr':'bob@beta'}]},'Payer':{'Amount':{'curr':'INR','value':'31.00'},'addr':'ann@alpha'},'Txn':{'id':'T1','type':'PAY'}}} = NO DUP
+NO 8 REPLY;26;=;E 8 0 1704067200 HEAR alpha {'ReqPay':{'Head':{'msgId':'A2','orgId':'alpha','ts':'2024-01-01T05:30:00+05:30','ver':'1.0'},'Payees':{'Payee':[{'addr':'bob@beta'}]},'Payer':{'Amount':{'curr':'INR','value':'31.00'},'addr':'ann@alpha'},'Txn':{'id':'T1','type':'PAY'}}} = NO AMT
+YES 11;26;=;E 8 0 1704067200 HEAR beta {'ReqPay':{'Head':{'msgId':'B1','orgId':'beta','ts':'2024-01-01T05:30:00+05:30','ver':'1.0'},'Payees':{'Payee':[{'addr':'bob@beta'}]},'Payer':{'Amount':{'curr':'INR','value':'30.00'},'addr':'ann@alpha'},'Txn':{'id':'T2','type':'PAY'}}} = NO NOTYOURS
+NO 8 REPLY;26;=;E 8 0 1704067200 HEAR beta {'ReqPay':{'Head':{'msgId':'B1','orgId':'beta','ts':'2024-01-01T05:30:00+05:30','ver':'1.0'},'Payees':{'Payee':[{'addr':'bob@beta'}]},'Payer':{'Amount':{'curr':'INR','value':'30.00'},'addr':'ann@alpha'},'Txn':{'id':'T2','type':'PAY'}}} = NO ADDR
+YES 11;26;=;E 8 0 1704067200 HEAR alpha {'ReqPay':{'Head':{'msgId':'A2','orgId':'alpha','ts':'2024-01-01T05:30:00+05:30','ver':'1.0'},'Payees':{'Payee':[{'addr':'zed@beta'}]},'Payer':{'Amount':{'curr':'INR','value':'30.00'},'addr':'ann@alpha'},'Txn':{'id':'T2','type':'PAY'}}} = NO ADDR
+NO 8 REPLY;26;=;E 8 0 1704067200 HEAR alpha {'ReqPay':{'Head':{'msgId':'A2','orgId':'alpha','ts':'2024-01-01T05:30:00+05:30','ver':'1.0'},'Payees':{'Payee':[{'addr':'zed@beta'}]},'Payer':{'Amount':{'curr':'INR','value':'30.00'},'addr':'ann@alpha'},'Txn':{'id':'T2','type':'PAY'}}} = NO ACCOUNT
+YES 11;26;=;E 8 0 1704067200 HEAR alpha {'ReqPay':{'Head':{'msgId':'A2','orgId':'alpha','ts':'2024-01-01T05:30:00+05:30','ver':'1.0'},'Payees':{'Payee':[{'addr':'bob@beta'}]},'Payer':{'Ac':{'Detail':[{'name':'IFSC','value':'AAAA0000000'},{'name':'ACNUM','value':'2'}],'addrType':'ACCOUNT'},'Amount':{'curr':'INR','value':'30.00'},'addr':'ann@alpha'},'Txn':{'id':'T2','type':'PAY'}}} = NO ACCOUNT
+NO 8 REPLY;26;=;E 8 0 1704067200 HEAR alpha {'ReqPay':{'Head':{'msgId':'A2','orgId':'alpha','ts':'2024-01-01T05:30:00+05:30','ver':'1.0'},'Payees':{'Payee':[{'addr':'bob@beta'}]},'Payer':{'Ac':{'Detail':[{'name':'IFSC','value':'AAAA0000000'},{'name':'ACNUM','value':'2'}],'addrType':'ACCOUNT'},'Amount':{'curr':'INR','value':'30.00'},'addr':'ann@alpha'},'Txn':{'id':'T2','type':'PAY'}}} = NO ADDR
+YES 11;26;=;E 8 0 1704067200 HEAR alpha {'ReqPay':{'Head':{'msgId':'A2','orgId':'alpha','ts':'2024-01-01T05:30:00+05:30','ver':'1.0'},'Payees':{'Payee':[{'addr':'ann@alpha'}]},'Payer':{'Amount':{'curr':'INR','value':'0.00'},'addr':'ann@alpha'},'Txn':{'id':'T2','type':'PAY'}}} = NO SAME
+NO 8 REPLY;26;=;E 8 0 1704067200 HEAR alpha {'ReqPay':{'Head':{'msgId':'A2','orgId':'alpha','ts':'2024-01-01T05:30:00+05:30','ver':'1.0'},'Payees':{'Payee':[{'addr':'ann@alpha'}]},'Payer':{'Amount':{'curr':'INR','value':'0.00'},'addr':'ann@alpha'},'Txn':{'id':'T2','type':'PAY'}}} = NO AMT
+YES 11;26;=;E 8 0 1704067200 HEAR alpha {'ReqPay':{'Head':{'msgId':'A2','orgId':'alpha','ts':'2024-01-01T05:30:00+05:30','ver':'1.0'},'Payees':{'Payee':[{'addr':'bob@beta'}]},'Payer':{'Amount':{'curr':'INR','value':'0.00'},'addr':'ann@alpha'},'Txn':{'id':'T2','type':'PAY'}}} = NO AMT
+NO 8 REPLY;26;=;E 8 0 1704067200 HEAR alpha {'ReqPay':{'Head':{'msgId':'A2','orgId':'alpha','ts':'2024-01-01T05:30:00+05:30','ver':'1.0'},'Payees':{'Payee':[{'addr':'bob@beta'}]},'Payer':{'Amount':{'curr':'INR','value':'0.00'},'addr':'ann@alpha'},'Txn':{'id':'T2','type':'PAY'}}} = NO FULL";
+
+/// Changes of `ONE_PAYMENT`: each other kind of call behind the outcome, with the reply that is due, and with
+/// another.
+pub const PAID_CALLS: &str =
+    "YES 11;26;=;E 8 0 1704067200 HEAR beta {'RespAuthDetails':{'Head':{'msgId':'B1','orgId':'beta','ts':'2024-01-01T05:30:00+05:30','ver':'1.0'},'Payer':{'Amount':{'curr':'INR','value':'30.00'}},'Resp':{'reqMsgId':'M1','result':'SUCCESS'},'Txn':{'id':'T1'}}} = OK
+NO 8 REPLY;26;=;E 8 0 1704067200 HEAR beta {'RespAuthDetails':{'Head':{'msgId':'B1','orgId':'beta','ts':'2024-01-01T05:30:00+05:30','ver':'1.0'},'Payer':{'Amount':{'curr':'INR','value':'30.00'}},'Resp':{'reqMsgId':'M1','result':'SUCCESS'},'Txn':{'id':'T1'}}} = NO DUP
+YES 11;26;=;E 8 0 1704067200 HEAR beta {'RespAuthDetails':{'Head':{'msgId':'B1','orgId':'beta','ts':'2024-01-01T05:30:00+05:30','ver':'1.0'},'Payer':{'Amount':{'curr':'INR','value':'30.00'}},'Resp':{'reqMsgId':'M1','result':'FAILURE'},'Txn':{'id':'T1'}}} = NO DUP
+NO 8 REPLY;26;=;E 8 0 1704067200 HEAR beta {'RespAuthDetails':{'Head':{'msgId':'B1','orgId':'beta','ts':'2024-01-01T05:30:00+05:30','ver':'1.0'},'Payer':{'Amount':{'curr':'INR','value':'30.00'}},'Resp':{'reqMsgId':'M1','result':'FAILURE'},'Txn':{'id':'T1'}}} = OK
+YES 11;26;=;E 8 0 1704067200 HEAR beta {'RespTxnConfirmation':{'Head':{'msgId':'B2','orgId':'beta','ts':'2024-01-01T05:30:00+05:30','ver':'1.0'},'Resp':{'reqMsgId':'M8'},'Txn':{'id':'T1'}}} = OK
+NO 8 REPLY;26;=;E 8 0 1704067200 HEAR beta {'RespTxnConfirmation':{'Head':{'msgId':'B2','orgId':'beta','ts':'2024-01-01T05:30:00+05:30','ver':'1.0'},'Resp':{'reqMsgId':'M8'},'Txn':{'id':'T1'}}} = NO EARLY
+YES 11;26;=;E 8 0 1704067200 HEAR alpha {'RespTxnConfirmation':{'Head':{'msgId':'B2','orgId':'alpha','ts':'2024-01-01T05:30:00+05:30','ver':'1.0'},'Resp':{'reqMsgId':'M8'},'Txn':{'id':'T1'}}} = NO NOTYOURS
+NO 8 REPLY;26;=;E 8 0 1704067200 HEAR alpha {'RespTxnConfirmation':{'Head':{'msgId':'B2','orgId':'alpha','ts':'2024-01-01T05:30:00+05:30','ver':'1.0'},'Resp':{'reqMsgId':'M8'},'Txn':{'id':'T1'}}} = OK
+YES 11;26;=;E 8 0 1704067200 HEAR beta {'RespTxnConfirmation':{'Head':{'msgId':'B2','orgId':'beta','ts':'2024-01-01T05:30:00+05:30','ver':'1.0'},'Resp':{'reqMsgId':'M8'},'Txn':{'id':'T2'}}} = NO NOTXN
+NO 8 REPLY;26;=;E 8 0 1704067200 HEAR beta {'RespTxnConfirmation':{'Head':{'msgId':'B2','orgId':'beta','ts':'2024-01-01T05:30:00+05:30','ver':'1.0'},'Resp':{'reqMsgId':'M8'},'Txn':{'id':'T2'}}} = NO EARLY
+YES 11;26;=;E 8 0 1704067200 HEAR beta {'ReqChkTxn':{'Head':{'msgId':'A3','orgId':'beta','ts':'2024-01-01T05:30:00+05:30','ver':'1.0'},'Txn':{'id':'T1'}}} = STATUS SUCCESS
+NO 8 REPLY;26;=;E 8 0 1704067200 HEAR beta {'ReqChkTxn':{'Head':{'msgId':'A3','orgId':'beta','ts':'2024-01-01T05:30:00+05:30','ver':'1.0'},'Txn':{'id':'T1'}}} = NO NOTYOURS
+YES 11;26;=;E 8 0 1704067200 HEAR alpha {'ReqChkTxn':{'Head':{'msgId':'A3','orgId':'alpha','ts':'2024-01-01T05:30:00+05:30','ver':'1.0'},'Txn':{'id':'T2'}}} = NO NOTXN
+NO 8 REPLY;26;=;E 8 0 1704067200 HEAR alpha {'ReqChkTxn':{'Head':{'msgId':'A3','orgId':'alpha','ts':'2024-01-01T05:30:00+05:30','ver':'1.0'},'Txn':{'id':'T2'}}} = STATUS PENDING
+YES 11;26;=;E 8 0 1704067200 HEAR alpha {'RespPay':{'Head':{'msgId':'A9','orgId':'alpha','ts':'2024-01-01T05:30:00+05:30','ver':'1.0'}}} = NO NOTYOURS
+NO 8 REPLY;26;=;E 8 0 1704067200 HEAR alpha {'RespPay':{'Head':{'msgId':'A9','orgId':'alpha','ts':'2024-01-01T05:30:00+05:30','ver':'1.0'}}} = NO FORMAT
+YES 11;26;=;E 8 0 1704067200 HEAR alpha {'ReqAuthDetails':{'Head':{'msgId':'A9','orgId':'alpha','ts':'2024-01-01T05:30:00+05:30','ver':'1.0'}}} = NO NOTYOURS
+NO 8 REPLY;26;=;E 8 0 1704067200 HEAR alpha {'ReqAuthDetails':{'Head':{'msgId':'A9','orgId':'alpha','ts':'2024-01-01T05:30:00+05:30','ver':'1.0'}}} = NO FORMAT
+YES 11;26;=;E 8 0 1704067200 HEAR alpha {'RespChkTxn':{'Head':{'msgId':'A9','orgId':'alpha','ts':'2024-01-01T05:30:00+05:30','ver':'1.0'}}} = NO NOTYOURS
+NO 8 REPLY;26;=;E 8 0 1704067200 HEAR alpha {'RespChkTxn':{'Head':{'msgId':'A9','orgId':'alpha','ts':'2024-01-01T05:30:00+05:30','ver':'1.0'}}} = NO FORMAT
+YES 11;26;=;E 8 0 1704067200 HEAR alpha {'ReqTxnConfirmation':{'Head':{'msgId':'A9','orgId':'alpha','ts':'2024-01-01T05:30:00+05:30','ver':'1.0'}}} = NO NOTYOURS
+NO 8 REPLY;26;=;E 8 0 1704067200 HEAR alpha {'ReqTxnConfirmation':{'Head':{'msgId':'A9','orgId':'alpha','ts':'2024-01-01T05:30:00+05:30','ver':'1.0'}}} = NO FORMAT
+YES 11;26;=;E 8 0 1704067200 BAD alpha ReqPay.Payees.Payee[0] ROOT = NO FORMAT
+NO 8 REPLY;26;=;E 8 0 1704067200 BAD alpha ReqPay.Payees.Payee[0] ROOT = NO AMT
+YES 11;26;=;E 8 0 1704067200 BAD alpha ReqPay.Payees.Payee[0] MISSING = NO FORMAT
+NO 8 REPLY;26;=;E 8 0 1704067200 BAD alpha ReqPay.Payees.Payee[0] MISSING = NO AMT
+YES 11;26;=;E 8 0 1704067200 BAD alpha ReqPay.Payees.Payee[0] KIND = NO FORMAT
+NO 8 REPLY;26;=;E 8 0 1704067200 BAD alpha ReqPay.Payees.Payee[0] KIND = NO AMT
+YES 11;26;=;E 8 0 1704067200 BAD alpha ReqPay.Payees.Payee[0] VALUE = NO FORMAT
+NO 8 REPLY;26;=;E 8 0 1704067200 BAD alpha ReqPay.Payees.Payee[0] VALUE = NO AMT
+YES 11;26;=;E 8 0 1704067200 BAD alpha ReqPay.Payees.Payee[0] COUNT = NO FORMAT
+NO 8 REPLY;26;=;E 8 0 1704067200 BAD alpha ReqPay.Payees.Payee[0] COUNT = NO AMT
+YES 11;26;=;E 8 0 1704067200 BAD alpha ReqPay.Payees.Payee[0] DIFFERS = NO FORMAT
+NO 8 REPLY;26;=;E 8 0 1704067200 BAD alpha ReqPay.Payees.Payee[0] DIFFERS = NO AMT
+YES 11;26;=;E 8 0 1704067200 DELIVER 4 = OK
+NO 8 REPLY;26;=;E 8 0 1704067200 DELIVER 4 = POSTED
+YES 11;26;=;E 8 0 1704067200 DELIVER 6 = OK
+NO 8 REPLY;26;=;E 8 0 1704067200 DELIVER 6 = NO CREDITLATE
+YES 11;26;=;E 8 0 1704067200 LATE T1 = NOTDUE
+NO 8 REPLY;26;=;E 8 0 1704067200 LATE T1 = DONE
+YES 11;26;=;E 8 0 1704067200 LATE T9 = NOTDUE
+NO 8 REPLY;26;=;E 8 0 1704067200 LATE T9 = NO NOTXN
+YES 11;26;=;E 8 0 1704067200 LOSE 1 = LOST
+NO 8 REPLY;26;=;E 8 0 1704067200 LOSE 1 = DONE";
+
+/// Changes of `ONE_PAYMENT`: calls behind the close.
+pub const PAID_SHUT: &str = "YES 12;30;>;E 12 0 1704067200 CLOSE = NO CLOSED
+NO 12 REPLY;30;>;E 12 0 1704067200 CLOSE = CLOSED
+YES 12;30;>;E 12 0 1704067200 DELIVER 1 = NO CLOSED
+NO 12 REPLY;30;>;E 12 0 1704067200 DELIVER 1 = TOLD
+YES 12;30;>;E 12 0 1704067200 LOSE 9 = NO CLOSED
+NO 12 REPLY;30;>;E 12 0 1704067200 LOSE 9 = LOST
+YES 12;30;>;E 12 0 1704067200 LATE T1 = NO CLOSED
+NO 12 REPLY;30;>;E 12 0 1704067200 LATE T1 = NOTDUE
+YES 12;30;>;E 12 0 1704067200 HEAR alpha {'ReqPay':{'Head':{'msgId':'A2','orgId':'alpha','ts':'2024-01-01T05:30:00+05:30','ver':'1.0'},'Payees':{'Payee':[{'addr':'bob@beta'}]},'Payer':{'Amount':{'curr':'INR','value':'30.00'},'addr':'ann@alpha'},'Txn':{'id':'T1','type':'PAY'}}} = NO CLOSED
+NO 12 REPLY;30;>;E 12 0 1704067200 HEAR alpha {'ReqPay':{'Head':{'msgId':'A2','orgId':'alpha','ts':'2024-01-01T05:30:00+05:30','ver':'1.0'},'Payees':{'Payee':[{'addr':'bob@beta'}]},'Payer':{'Amount':{'curr':'INR','value':'30.00'},'addr':'ann@alpha'},'Txn':{'id':'T1','type':'PAY'}}} = OK
+YES 12;30;>;E 12 0 1704067200 HEAR alpha {'RespPay':{'Head':{'msgId':'A9','orgId':'alpha','ts':'2024-01-01T05:30:00+05:30','ver':'1.0'}}} = NO CLOSED
+NO 12 REPLY;30;>;E 12 0 1704067200 HEAR alpha {'RespPay':{'Head':{'msgId':'A9','orgId':'alpha','ts':'2024-01-01T05:30:00+05:30','ver':'1.0'}}} = NO NOTYOURS
+YES 12;30;>;E 12 0 1704067200 HEAR beta {'RespTxnConfirmation':{'Head':{'msgId':'B2','orgId':'beta','ts':'2024-01-01T05:30:00+05:30','ver':'1.0'},'Resp':{'reqMsgId':'M8'},'Txn':{'id':'T1'}}} = NO CLOSED
+NO 12 REPLY;30;>;E 12 0 1704067200 HEAR beta {'RespTxnConfirmation':{'Head':{'msgId':'B2','orgId':'beta','ts':'2024-01-01T05:30:00+05:30','ver':'1.0'},'Resp':{'reqMsgId':'M8'},'Txn':{'id':'T1'}}} = OK
+YES 12;30;>;E 12 0 1704067200 HEAR alpha {'ReqChkTxn':{'Head':{'msgId':'A3','orgId':'alpha','ts':'2024-01-01T05:30:00+05:30','ver':'1.0'},'Txn':{'id':'T1'}}} = STATUS SUCCESS
+NO 12 REPLY;30;>;E 12 0 1704067200 HEAR alpha {'ReqChkTxn':{'Head':{'msgId':'A3','orgId':'alpha','ts':'2024-01-01T05:30:00+05:30','ver':'1.0'},'Txn':{'id':'T1'}}} = NO CLOSED
+YES 12;30;>;E 12 0 1704067200 BAD alpha - JSON = NO FORMAT
+NO 12 REPLY;30;>;E 12 0 1704067200 BAD alpha - JSON = NO CLOSED
+NO 12 CALL;30;>;E 12 0 1704067200 DELIVER 10 = NO CLOSED
+NO 12 CALL;30;>;E 12 0 1704067200 LOSE 0 = NO CLOSED
+NO 12 CALL;30;>;E 12 0 1704067200 BAD gamma - JSON = NO FORMAT";
+
+/// Changes of `ONE_PAYMENT`: another word in each place of its M lines.
+pub const PAID_SENT: &str = "NO 1 SENT;12;=;M 11 SWITCH beta REQAUTH T1 30.00
+NO 1 SENT;12;=;M 1 alpha beta REQAUTH T1 30.00
+NO 1 SENT;12;=;M 1 SWITCH beta REQAUTH T2 30.00
+NO 1 SENT;12;=;M 1 SWITCH beta REQAUTH T1 30.01
+NO 2 SENT;14;=;M 12 beta SWITCH RESPAUTH T1 30.00 YES
+NO 2 SENT;14;=;M 2 alpha SWITCH RESPAUTH T1 30.00 YES
+NO 2 SENT;14;=;M 2 beta alpha RESPAUTH T1 30.00 YES
+NO 2 SENT;14;=;M 2 beta SWITCH RESPAUTH T2 30.00 YES
+NO 2 SENT;14;=;M 2 beta SWITCH RESPAUTH T1 30.01 YES
+NO 3 SENT;16;=;M 13 SWITCH AAAA DEBIT T1 30.00 AAAA/1
+NO 3 SENT;16;=;M 3 alpha AAAA DEBIT T1 30.00 AAAA/1
+NO 3 SENT;16;=;M 3 SWITCH BBBB DEBIT T1 30.00 AAAA/1
+NO 3 SENT;16;=;M 3 SWITCH AAAA DEBIT T2 30.00 AAAA/1
+NO 3 SENT;16;=;M 3 SWITCH AAAA DEBIT T1 30.01 AAAA/1
+NO 3 SENT;16;=;M 3 SWITCH AAAA DEBIT T1 30.00 BBBB/1
+NO 4 SENT;18;=;M 14 AAAA SWITCH ANSWER T1 DEBIT POSTED
+NO 4 SENT;18;=;M 4 BBBB SWITCH ANSWER T1 DEBIT POSTED
+NO 4 SENT;18;=;M 4 AAAA alpha ANSWER T1 DEBIT POSTED
+NO 4 SENT;18;=;M 4 AAAA SWITCH ANSWER T2 DEBIT POSTED
+NO 5 SENT;20;=;M 15 SWITCH BBBB CREDIT T1 30.00 BBBB/1
+NO 5 SENT;20;=;M 5 alpha BBBB CREDIT T1 30.00 BBBB/1
+NO 5 SENT;20;=;M 5 SWITCH AAAA CREDIT T1 30.00 BBBB/1
+NO 5 SENT;20;=;M 5 SWITCH BBBB REVERSAL T1 30.00 BBBB/1
+NO 5 SENT;20;=;M 5 SWITCH BBBB CREDIT T1 30.01 BBBB/1
+NO 5 SENT;20;=;M 5 SWITCH BBBB CREDIT T1 30.00 AAAA/1
+NO 6 SENT;22;=;M 16 BBBB SWITCH ANSWER T1 CREDIT POSTED
+NO 6 SENT;22;=;M 6 AAAA SWITCH ANSWER T1 CREDIT POSTED
+NO 6 SENT;22;=;M 6 BBBB alpha ANSWER T1 CREDIT POSTED
+NO 6 SENT;22;=;M 6 BBBB SWITCH ANSWER T2 CREDIT POSTED
+NO 6 SENT;22;=;M 6 BBBB SWITCH ANSWER T1 REVERSAL POSTED
+NO 6 SENT;22;=;M 6 BBBB SWITCH ANSWER T1 CREDIT DECLINED FUNDS
+NO 7 SENT;24;=;M 17 SWITCH alpha RESPPAY T1 SUCCESS
+NO 7 SENT;24;=;M 7 alpha alpha RESPPAY T1 SUCCESS
+NO 7 SENT;24;=;M 7 SWITCH beta RESPPAY T1 SUCCESS
+NO 7 SENT;24;=;M 7 SWITCH alpha CONFIRM T1 SUCCESS
+NO 7 SENT;24;=;M 7 SWITCH alpha RESPPAY T2 SUCCESS
+NO 7 SENT;25;=;M 18 SWITCH beta CONFIRM T1 SUCCESS
+NO 7 SENT;25;=;M 8 alpha beta CONFIRM T1 SUCCESS
+NO 7 SENT;25;=;M 8 SWITCH alpha CONFIRM T1 SUCCESS
+NO 7 SENT;25;=;M 8 SWITCH beta RESPPAY T1 SUCCESS
+NO 7 SENT;25;=;M 8 SWITCH beta CONFIRM T2 SUCCESS
+NO 7 SENT;25;=;M 8 SWITCH beta CONFIRM T1 DEEMED
+NO 9 SENT;28;=;M 19 beta SWITCH CONFIRMED T1
+NO 9 SENT;28;=;M 9 alpha SWITCH CONFIRMED T1
+NO 9 SENT;28;=;M 9 beta alpha CONFIRMED T1";
+
+/// Changes of `ONE_PAYMENT` after which a line isn't text, has too few or too many words, or one that is
+/// outside its grammar.
+pub const PAID_GRAMMAR: &str = "YES 11;10;>;#~
+NO 2 REPORT;33;=;OUTCOME,T1,,SUCCESS,30.00,~
+BAD 6 0 UTF8;6;=;ACCOUNT AAAA/1 100~
+BAD 12 0 UTF8;12;=;M 1 SWITCH beta REQAUTH T1 30.00~
+BAD 13 0 UTF8;13;=;F~
+BAD 13 0 FIELDS;13;=;E 2 0 1704067200 LOSE = LOST
+BAD 13 0 FIELDS;13;=;E 2 0 1704067200 LATE = NOTDUE
+BAD 13 0 FIELDS;13;=;E 2 0 1704067200 BAD alpha - = NO FORMAT
+BAD 13 0 FIELDS;13;=;E 2 0 1704067200 HEAR alpha = OK
+BAD 13 0 FIELDS;13;=;E 2 0 1704067200 DELIVER 1 = DECLINED
+BAD 13 0 FIELDS;13;=;E 2 0 1704067200 DELIVER 1 = STATUS
+BAD 13 0 FIELDS;13;=;E 2 0 1704067200 DELIVER 1 = STATUS FAILURE
+BAD 13 0 FIELDS;13;=;E 2 0 1704067200 DELIVER 1 = STATUS SUCCESS FUNDS
+BAD 13 2 VALUE;13;=;E 2222222222222222222 0 1704067200 DELIVER 1 = TOLD
+BAD 13 6 VALUE;13;=;E 2 0 1704067200 DELIVER 1111111111111111111 = TOLD
+BAD 14 6 VALUE;14;=;M 2 beta SWITCH RESPAUTH T/1 30.00 YES
+BAD 16 6 VALUE;16;=;M 3 SWITCH AAAA DEBIT T/1 30.00 AAAA/1
+BAD 16 6 VALUE;16;=;M 3 SWITCH AAAA REVERSAL T/1 30.00 AAAA/1
+BAD 18 6 VALUE;18;=;M 4 AAAA SWITCH ANSWER T/1 DEBIT POSTED
+BAD 20 6 VALUE;20;=;M 5 SWITCH BBBB CREDIT T/1 30.00 BBBB/1
+BAD 24 6 VALUE;24;=;M 7 SWITCH alpha RESPPAY T/1 SUCCESS
+BAD 28 6 VALUE;28;=;M 9 beta SWITCH CONFIRMED T/1
+BAD 14 7 VALUE;14;=;M 2 beta SWITCH RESPAUTH T1 30.000 YES
+BAD 16 7 VALUE;16;=;M 3 SWITCH AAAA DEBIT T1 30.000 AAAA/1
+BAD 16 7 VALUE;16;=;M 3 SWITCH AAAA REVERSAL T1 30.000 AAAA/1
+BAD 20 8 VALUE;20;=;M 5 SWITCH BBBB CREDIT T1 30.00 BBB/1
+BAD 14 0 FIELDS;14;=;M 2 beta SWITCH RESPAUTH T1 30.00
+BAD 20 0 FIELDS;20;=;M 5 SWITCH BBBB CREDIT T1 30.00 BBBB/1 YES
+BAD 24 0 FIELDS;24;=;M 7 SWITCH alpha RESPPAY T1
+BAD 24 0 FIELDS;24;=;M 7 SWITCH alpha RESPPAY T1 FAILURE
+BAD 25 0 FIELDS;25;=;M 8 SWITCH beta CONFIRM T1 SUCCESS FUNDS
+BAD 25 8 VALUE;25;=;M 8 SWITCH beta CONFIRM T1 FAILURE WAY";

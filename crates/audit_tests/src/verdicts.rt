@@ -51,11 +51,20 @@ fn push_end(end: Result<Verdict, EngineFault>, out: &mut Vec<u8>) -> Result<(), 
     }
 }
 
-// A text with each `'` as `"`.
+// What a byte of a table stands for.
+fn meant(byte: u8) -> u8 {
+    match byte {
+        b'\'' => b'"',
+        b'~' => 255,
+        _ => byte,
+    }
+}
+
+// A text, with each byte as what it stands for.
 fn set_line(text: &str, line: &mut Vec<u8>) -> Result<(), NoMemory> {
     line.clear();
     for byte in text.as_bytes() {
-        line.push(if *byte == b'\'' { b'"' } else { *byte })?;
+        line.push(meant(*byte))?;
     }
     Ok(())
 }
@@ -188,7 +197,7 @@ fn first_wrong<'a>(
 }
 
 #[test]
-fn journals_are_judged(rt: HostRuntime) -> Result<(), Fail> {
+fn lines_of_a_payment_are_judged(rt: HostRuntime) -> Result<(), Fail> {
     let alloc = rt.alloc();
     let hashes = RandomState::new(&rt)?;
     assert_eq!(rt;
@@ -199,6 +208,44 @@ fn journals_are_judged(rt: HostRuntime) -> Result<(), Fail> {
         first_wrong(alloc, hashes, examples::ONE_PAYMENT, spoiled::PAID_WORDS)?,
         None
     );
+    assert_eq!(rt;
+        first_wrong(alloc, hashes, examples::ONE_PAYMENT, spoiled::PAID_SENT)?,
+        None
+    );
+    assert_eq!(rt;
+        first_wrong(alloc, hashes, examples::ONE_PAYMENT, spoiled::PAID_GRAMMAR)?,
+        None
+    );
+    Ok(())
+}
+
+#[test]
+fn calls_of_a_payment_are_judged(rt: HostRuntime) -> Result<(), Fail> {
+    let alloc = rt.alloc();
+    let hashes = RandomState::new(&rt)?;
+    assert_eq!(rt;
+        first_wrong(alloc, hashes, examples::ONE_PAYMENT, spoiled::PAID_ANSWERS)?,
+        None
+    );
+    assert_eq!(rt;
+        first_wrong(alloc, hashes, examples::ONE_PAYMENT, spoiled::PAID_PAYS)?,
+        None
+    );
+    assert_eq!(rt;
+        first_wrong(alloc, hashes, examples::ONE_PAYMENT, spoiled::PAID_CALLS)?,
+        None
+    );
+    assert_eq!(rt;
+        first_wrong(alloc, hashes, examples::ONE_PAYMENT, spoiled::PAID_SHUT)?,
+        None
+    );
+    Ok(())
+}
+
+#[test]
+fn journals_are_judged(rt: HostRuntime) -> Result<(), Fail> {
+    let alloc = rt.alloc();
+    let hashes = RandomState::new(&rt)?;
     assert_eq!(rt;
         first_wrong(alloc, hashes, examples::DEBIT_REVERSED, spoiled::REVERSED)?,
         None
