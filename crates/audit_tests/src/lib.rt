@@ -5,8 +5,6 @@
 #[cfg(test)]
 mod examples;
 #[cfg(test)]
-mod loads;
-#[cfg(test)]
 mod spoiled;
 #[cfg(test)]
 mod verdicts;

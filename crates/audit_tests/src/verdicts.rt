@@ -196,6 +196,64 @@ fn first_wrong<'a>(
     Ok(None)
 }
 
+// The line of a place by which message 1 is lost.
+fn set_loss(place: u64, line: &mut Vec<u8>) -> Result<(), NoMemory> {
+    line.clear();
+    line.extend_from_slice(b"E ")?;
+    write_number(place, line)?;
+    line.extend_from_slice(b" 0 1704067200 LOSE 1 = LOST")?;
+    Ok(())
+}
+
+// Reads 20,000 of them, from place 11 on.
+fn give_losses(audit: &mut Audit, line: &mut Vec<u8>) -> Result<(), EngineFault> {
+    for place in 11..20_011_u64 {
+        set_loss(place, line)?;
+        audit.line(line)?;
+    }
+    Ok(())
+}
+
+// Reads a line of a payment. Before its Close there are those losses.
+fn give_late(
+    audit: &mut Audit,
+    text: &str,
+    line: &mut Vec<u8>,
+    count: &mut u64,
+) -> Result<(), EngineFault> {
+    if !text.ends_with("CLOSE = CLOSED") {
+        return give(audit, text, line, count);
+    }
+    give_losses(audit, line)?;
+    give(audit, "E 20011 0 1704067200 CLOSE = CLOSED", line, count)
+}
+
+// What is said of a payment with those losses.
+fn push_long(audit: &mut Audit, line: &mut Vec<u8>, out: &mut Vec<u8>) -> Result<(), EngineFault> {
+    let mut count = 0;
+    for text in examples::ONE_PAYMENT.lines() {
+        give_late(audit, text, line, &mut count)?;
+    }
+    push_end(audit.end(), out)?;
+    Ok(())
+}
+
+// The same, by an audit of its own.
+fn said_of_long(alloc: Global, hashes: RandomState, out: &mut Vec<u8>) -> Result<(), EngineFault> {
+    let mut line = Vec::new(alloc);
+    let mut audit = Audit::new(alloc, hashes);
+    push_long(&mut audit, &mut line, out)
+}
+
+#[test]
+fn a_long_journal_is_right(rt: HostRuntime) -> Result<(), Fail> {
+    let mut out = Vec::new(rt.alloc());
+    let hashes = RandomState::new(&rt)?;
+    assert!(rt; said_of_long(rt.alloc(), hashes, &mut out).is_ok());
+    assert!(rt; is_line(&out, "YES 20011"));
+    Ok(())
+}
+
 #[test]
 fn lines_of_a_payment_are_judged(rt: HostRuntime) -> Result<(), Fail> {
     let alloc = rt.alloc();
