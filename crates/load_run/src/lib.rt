@@ -7,3 +7,6 @@ pub mod summary;
 
 pub use run::{LoadFault, run_load};
 pub use summary::write_summary;
+
+#[cfg(test)]
+mod tests;
